@@ -1,18 +1,10 @@
 -- The addresses that a router sets fit their fields.
-use Rattle.std.proofs.Common.{◌+◌, List, [], ◌∷◌, Contains, filter, sym, subst, inl, inr}
-use Rattle.std.specs.Prelude.{All}
-use Rattle.std.proofs.lemmas.List.Elements.{All-contains, All-nil, All-push}
-use Rattle.hn_assign.specs.declared.assigned.Assigned.{Assigned}
-use Rattle.hn_base.specs.Rules.{Each}
+use Rattle.hn_base.proofs.Names.{◌+◌, List, [], ◌∷◌, Contains, filter, sym, subst, inl, inr, All, All-contains, All-nil, All-push, Each}
+use Rattle.hn_addr.proofs.Names.{Assigned, from_filter, PlainView, OwnAddress, seen_by, IsChosenFor, counts, none_chosen, Choosing}
 use Rattle.hn_base.proofs.AscendingLists.{Contains-head, Contains-tail}
-use Rattle.hn_base.proofs.Elements.{all_of, from_filter}
-use Rattle.hn_data.specs.View.{PlainView}
-use Rattle.hn_own.specs.Addresses.{OwnAddress}
+use Rattle.hn_base.proofs.Elements.{all_of}
 use Rattle.hn_own.specs.Ranges.{IsRangedAddress, IsRangedHeld}
-use Rattle.hn_rules.specs.Seen.{seen_by}
-use Rattle.hn_addr.specs.Addresses.{IsChosenFor, counts, none_chosen}
 use Rattle.hn_addr.specs.Laws.{ChosenAddressesFit}
-use Rattle.hn_addr.specs.declared.choosing.Choosing.{Choosing}
 use Rattle.hn_addr.proofs.NumbersInPrefix.{address_fits}
 
 module _ (view : PlainView) (own : List OwnAddress) (own_fit : All IsRangedAddress own) where

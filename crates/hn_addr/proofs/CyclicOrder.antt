@@ -1,7 +1,6 @@
 -- How far numbers are from a start.
-use Rattle.std.proofs.Common.{◌≡◌, ℕ, ◌+◌, ◌-◌, ◌<◌, ◌≤◌, inl, inr, arith}
-use Rattle.std.proofs.lemmas.Bool.{cases_lt}
-use Rattle.hn_addr.specs.Addresses.{start_of, ahead}
+use Rattle.hn_base.proofs.Names.{◌≡◌, ℕ, ◌+◌, ◌-◌, ◌<◌, ◌≤◌, inl, inr, arith, cases_lt}
+use Rattle.hn_addr.proofs.Names.{start_of, ahead}
 
 pub ahead_from : (start k : ℕ) → 1 ≤ start → start ≤ 65535 → start ≤ k → k ≤ 65535 → ahead start k ≡ k - start
 ahead_from start k low high from most = omega arith

@@ -1,16 +1,7 @@
 -- The first number that fits.
-use Rattle.std.proofs.Common.{◌≡◌, ◌↔◌, ℕ, ◌+◌, ◌-◌, ◌^◌, ◌<◌, ◌≤◌, List, Option, Some, None, subst, inl, inr, arith}
-use Rattle.std.specs.Prelude.{MatchOption, unwrap_or}
-use Rattle.std.proofs.lemmas.Bool.{cases_lt}
-use Rattle.hn_assign.specs.declared.assigned.Assigned.{Assigned}
-use Rattle.hn_base.specs.Prefix.{PlainPrefix}
-use Rattle.hn_data.specs.View.{PlainView}
-use Rattle.hn_own.specs.Addresses.{OwnAddress}
-use Rattle.hn_addr.specs.Addresses.{NumberFits, IsFirstFit, start_of, ahead}
-use Rattle.hn_addr.specs.Choosings.{IsFirstAround}
-use Rattle.hn_addr.specs.Numbers.{FitsBeside, HasNoneFrom, IsFirstFrom}
-use Rattle.hn_addr.specs.Others.{AreOthers}
-use Rattle.hn_addr.specs.declared.others.Others.{Others}
+use Rattle.hn_base.proofs.Names.{◌≡◌, ◌↔◌, ℕ, ◌+◌, ◌-◌, ◌^◌, ◌<◌, ◌≤◌, List, Option, Some, None, subst, inl, inr, arith, MatchOption, unwrap_or, cases_lt, PlainPrefix}
+use Rattle.hn_addr.proofs.Names.{Assigned, PlainView, OwnAddress, NumberFits, IsFirstFit, start_of, ahead, IsFirstAround, HasNoneFrom, AreOthers, Others}
+use Rattle.hn_addr.specs.Numbers.{FitsBeside, IsFirstFrom}
 use Rattle.hn_addr.proofs.CyclicOrder.{ahead_from, ahead_before, start_low, start_high, same_ahead}
 use Rattle.hn_addr.proofs.OtherAddresses.{other_there, other_from}
 

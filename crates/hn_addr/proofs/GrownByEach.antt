@@ -1,12 +1,7 @@
 -- A list that grows by what each element of another gives; and what the nodes of a view give.
-use Rattle.std.proofs.Common.{◌≡◌, ◌⊎◌, ◌↔◌, ℕ, ◌+◌, List, [], ◌∷◌, ◌++◌, take, slice_get, Contains, Some, sym, subst, inl, inr, ⊎_elim}
-use Rattle.std.proofs.lemmas.List.Elements.{Contains-push, Contains-push_cases, Contains-append_left}
-use Rattle.hn_base.specs.declared.ids.NodeId.{NodeId}
-use Rattle.hn_base.proofs.AscendingLists.{nothing_in}
-use Rattle.hn_base.proofs.FrontOfList.{front_at}
+use Rattle.hn_base.proofs.Names.{◌≡◌, ◌⊎◌, ◌↔◌, ℕ, ◌+◌, List, [], ◌∷◌, ◌++◌, take, slice_get, Contains, Some, sym, subst, inl, inr, ⊎_elim, Contains-push, Contains-push_cases, Contains-append_left}
+use Rattle.hn_addr.proofs.Names.{NodeId, nothing_in, front_at, Entry, IsGivenByOne, IsOfNode}
 use Rattle.hn_data.specs.Said.{HasVersion}
-use Rattle.hn_data.specs.declared.view.Entry.{Entry}
-use Rattle.hn_addr.specs.OfNodes.{IsGivenByOne, IsOfNode}
 
 -- ---- what is given at once
 

@@ -1,19 +1,9 @@
 -- The least own address inside a prefix, one own address after the other; and whether it stays.
-use Rattle.std.proofs.Common.{◌≡◌, ◌⊎◌, ℕ, ◌+◌, ◌<◌, List, [], ◌∷◌, ◌++◌, take, slice_get, Contains, Option, Some, None, refl, sym, ap, subst, ⊎_elim, arith}
-use Rattle.std.specs.Prelude.{MatchOption}
-use Rattle.std.proofs.lemmas.List.Elements.{Contains-push, Contains-push_cases, Contains-append_left}
-use Rattle.hn_assign.specs.declared.assigned.Assigned.{Assigned}
-use Rattle.hn_base.specs.Prefix.{IsInside}
+use Rattle.hn_base.proofs.Names.{◌≡◌, ◌⊎◌, ℕ, ◌+◌, ◌<◌, List, [], ◌∷◌, ◌++◌, take, slice_get, Contains, Option, Some, None, refl, sym, ap, subst, ⊎_elim, arith, MatchOption, Contains-push}
+use Rattle.hn_base.proofs.Names.{Contains-push_cases, Contains-append_left, IsInside}
+use Rattle.hn_addr.proofs.Names.{Assigned, NodeId, nothing_in, front_at, PlainView, OwnAddress, IsLeastOwn, Stays, HasCome, AreOthers, HasAddressAbove, IsLeastFound, Others}
 use Rattle.hn_base.specs.declared.ids.EpId.{EpId}
-use Rattle.hn_base.specs.declared.ids.NodeId.{NodeId}
-use Rattle.hn_base.proofs.AscendingLists.{nothing_in}
-use Rattle.hn_base.proofs.FrontOfList.{front_at}
-use Rattle.hn_data.specs.View.{PlainView}
-use Rattle.hn_own.specs.Addresses.{OwnAddress}
-use Rattle.hn_addr.specs.Addresses.{IsLeastOwn, Stays, HasCome}
-use Rattle.hn_addr.specs.Others.{AreOthers, HasAddressAbove}
-use Rattle.hn_addr.specs.Own.{IsOwnInside, IsLesser, IsLeastFound}
-use Rattle.hn_addr.specs.declared.others.Others.{Others}
+use Rattle.hn_addr.specs.Own.{IsOwnInside, IsLesser}
 use Rattle.hn_addr.proofs.OtherAddresses.{above_there, above_from}
 
 -- ---- one own address more

@@ -1,3 +1,4 @@
+mod Names
 mod GrownByEach
 mod OtherAddresses
 mod LeastOwnAddress

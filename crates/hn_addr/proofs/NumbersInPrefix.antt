@@ -1,9 +1,8 @@
 -- The addresses that numbers make.
-use Rattle.std.proofs.Common.{◌≡◌, ◌↔◌, ◌∙◌, ℕ, ◌+◌, ◌-◌, ◌*◌, ◌/◌, ◌%◌, ◌^◌, ◌<◌, ◌≤◌, min, sym, ap, subst, inl, inr, arith}
-use Rattle.std.proofs.Math.Nat.{lt-div-mul-add, mul-le-mul_right, lt_of_mul-lt-mul_right, suc-mul, pow-le-pow_right, min-eq_left, min-eq_right, min-le_right}
-use Rattle.std.proofs.lemmas.Bool.{cases_lt}
-use Rattle.std.proofs.lemmas.Nat.{div-mul-add, div-add-mod', pow_pos, pow-add}
-use Rattle.hn_base.specs.Prefix.{PlainPrefix, IsPrefix}
+use Rattle.hn_base.proofs.Names.{◌≡◌, ◌↔◌, ◌∙◌, ℕ, ◌+◌, ◌-◌, ◌*◌, ◌/◌, ◌%◌, ◌^◌, ◌<◌, ◌≤◌, min, sym, ap, subst, inl, inr, arith, lt-div-mul-add, pow-le-pow_right, cases_lt, pow_pos, pow-add}
+use Rattle.hn_base.proofs.Names.{PlainPrefix, IsPrefix}
+use Rattle.std.proofs.Math.Nat.{mul-le-mul_right, lt_of_mul-lt-mul_right, suc-mul, min-eq_left, min-eq_right, min-le_right}
+use Rattle.std.proofs.lemmas.Nat.{div-mul-add, div-add-mod'}
 use Rattle.hn_addr.specs.Laws.{NumberIsInside}
 
 -- ---- a number below a size, past a multiple of it

@@ -1,26 +1,16 @@
 -- How the choosing goes on, and that it has one result over one stream of words.
-use Rattle.std.proofs.Common.{◌≡◌, ◌∙◌, ◌⊎◌, ℕ, ◌+◌, List, [], ◌∷◌, ◌++◌, Contains, filter, Option, Some, refl, sym, ap, subst, append_assoc, arith}
-use Rattle.std.specs.Cmp.{IsTotalOrder}
-use Rattle.std.proofs.lemmas.Cmp.{nat_cmp_total, on_total, then_total}
+use Rattle.hn_base.proofs.Names.{◌≡◌, ◌∙◌, ◌⊎◌, ℕ, ◌+◌, List, [], ◌∷◌, ◌++◌, Contains, filter, Option, Some, refl, sym, ap, subst, append_assoc, arith, IsTotalOrder, nat_cmp_total, on_total}
+use Rattle.hn_base.proofs.Names.{then_total, append-nil, IsSoleBy, Begins, IsAt, Took}
+use Rattle.hn_addr.proofs.Names.{Assigned, PlainView, OwnAddress, address_cmp, seen_by, State, Stays, IsFirstFit, counts, adding, KeepsOwn, DrawsOne, GetsNone, IsChosenFor, none_chosen, AreNext}
+use Rattle.hn_addr.proofs.Names.{IsAddressStill, Draws, Keep, Set, Choosing}
 use Rattle.std.proofs.Math.Nat.{zero-add}
-use Rattle.std.proofs.lemmas.List.{append-nil}
-use Rattle.hn_assign.specs.declared.assigned.Assigned.{Assigned}
-use Rattle.hn_base.specs.Rules.{IsSoleBy}
-use Rattle.hn_base.specs.Words.{Begins, IsAt, Took}
 use Rattle.hn_base.proofs.AscendingLists.{ascending_unique}
 use Rattle.hn_base.proofs.FirstWords.{begins_along}
 use Rattle.hn_base.proofs.FrontOfList.{head_is}
 use Rattle.hn_base.proofs.OneResult.{sole_drawn, sole_given, sole_or, sole_where, sole_each}
-use Rattle.hn_data.specs.View.{PlainView}
 use Rattle.hn_io.specs.Laws.{WordsJoin}
-use Rattle.hn_own.specs.Addresses.{OwnAddress, address_cmp}
-use Rattle.hn_rules.specs.Seen.{seen_by}
-use Rattle.hn_rules.specs.declared.state.State.{State}
-use Rattle.hn_addr.specs.Addresses.{Stays, IsFirstFit, counts, adding, KeepsOwn, DrawsOne, GetsNone, IsChosenFor, none_chosen, AreNext, IsAddressStill}
-use Rattle.hn_addr.specs.Choosings.{Draws, ChoosingIsUnique}
+use Rattle.hn_addr.specs.Choosings.{ChoosingIsUnique}
 use Rattle.hn_addr.specs.Laws.{ChoiceIsUnique}
-use Rattle.hn_addr.specs.declared.choice.Choice.TheVariants.{Keep, Set}
-use Rattle.hn_addr.specs.declared.choosing.Choosing.{Choosing}
 use Rattle.hn_addr.proofs.LeastOwnAddress.{one_least}
 use Rattle.hn_addr.proofs.FirstFittingNumber.{one_number}
 

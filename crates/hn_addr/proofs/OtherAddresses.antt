@@ -1,14 +1,9 @@
 -- The addresses that other nodes have, by a list of those of all nodes.
-use Rattle.std.proofs.Common.{◌≡◌, ◌≢◌, ◌<◌, ◌==◌, ℕ, Bool, not, Contains, filter, refl, ap, subst, arith}
-use Rattle.std.proofs.lemmas.Bool.{eqb-true, eqb-false, not-true, not_from_false, false_from_ne_true}
-use Rattle.hn_base.specs.declared.ids.NodeId.{NodeId}
+use Rattle.hn_base.proofs.Names.{◌≡◌, ◌≢◌, ◌<◌, ℕ, Bool, not, Contains, filter, refl, ap, subst, arith, eqb-true, eqb-false, not-true, not_from_false, false_from_ne_true}
+use Rattle.hn_addr.proofs.Names.{NodeId, from_filter, PlainView, IsAddressOfOther, AreOthers, HasAddressAbove, Others, Taken}
+use Rattle.std.proofs.Common.{◌==◌}
 use Rattle.hn_base.proofs.AscendingLists.{Contains-map, Contains-from_map}
-use Rattle.hn_base.proofs.Elements.{in_filter, from_filter}
-use Rattle.hn_data.specs.View.{PlainView}
-use Rattle.hn_addr.specs.Addresses.{IsAddressOfOther}
-use Rattle.hn_addr.specs.Others.{AreOthers, HasAddressAbove}
-use Rattle.hn_addr.specs.declared.others.Others.{Others}
-use Rattle.hn_addr.specs.declared.others.Taken.{Taken}
+use Rattle.hn_base.proofs.Elements.{in_filter}
 
 module _ (view : PlainView) (others : Others) (are : AreOthers view others) where
   -- ---- an address and its node

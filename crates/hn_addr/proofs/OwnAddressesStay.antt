@@ -1,16 +1,7 @@
 -- Where no address is chosen anew, each own address stays.
-use Rattle.std.proofs.Common.{◌≡◌, ◌∙◌, ℕ, ◌<◌, List, [], ◌∷◌, ◌++◌, Contains, filter, sym, ap, subst, inl, inr, ⊎_elim}
-use Rattle.std.proofs.lemmas.List.{append-nil}
-use Rattle.std.proofs.lemmas.List.Elements.{Contains-push_cases}
-use Rattle.hn_assign.specs.declared.assigned.Assigned.{Assigned}
-use Rattle.hn_base.specs.Rules.{Each}
-use Rattle.hn_base.proofs.AscendingLists.{nothing_in}
-use Rattle.hn_data.specs.View.{PlainView}
-use Rattle.hn_own.specs.Addresses.{OwnAddress}
-use Rattle.hn_rules.specs.Seen.{seen_by}
-use Rattle.hn_addr.specs.Addresses.{IsAddressOfOther, HasCome, Stays, IsChosenFor, counts, none_chosen}
+use Rattle.hn_base.proofs.Names.{◌≡◌, ◌∙◌, ℕ, ◌<◌, List, [], ◌∷◌, ◌++◌, Contains, filter, sym, ap, subst, inl, inr, ⊎_elim, append-nil, Contains-push_cases, Each}
+use Rattle.hn_addr.proofs.Names.{Assigned, nothing_in, PlainView, OwnAddress, seen_by, IsAddressOfOther, HasCome, Stays, IsChosenFor, counts, none_chosen, Choosing}
 use Rattle.hn_addr.specs.Laws.{StillAddressesStay}
-use Rattle.hn_addr.specs.declared.choosing.Choosing.{Choosing}
 
 -- a list with one word more is not empty
 one_there : (words : List ℕ) (word : ℕ) → words ++ word ∷ [] ≡ [] → ⊥

@@ -1,25 +1,14 @@
 -- Over each stream of words a router has a choice: it cannot be that there is none.
-use Rattle.std.proofs.Common.{◌∙◌, ◌+◌, ◌≡◌, ◌⊎◌, ◌≤◌, ℕ, List, [], ◌∷◌, filter, refl, ap, inl, inr, sym, subst, arith}
-use Rattle.std.specs.Ordering.{nat_cmp}
-use Rattle.std.proofs.lemmas.List.{append-nil}
-use Rattle.hn_assign.specs.declared.assigned.Assigned.{Assigned}
-use Rattle.hn_base.specs.Ascending.{IsExact}
-use Rattle.hn_base.specs.Exists.{Some! }
-use Rattle.hn_base.specs.Rules.{IsTotalBy}
-use Rattle.hn_base.specs.Words.{Begins}
+use Rattle.hn_base.proofs.Names.{◌∙◌, ◌+◌, ◌≡◌, ◌⊎◌, ◌≤◌, ℕ, List, [], ◌∷◌, filter, refl, ap, inl, inr, sym, subst, arith, nat_cmp, append-nil, IsExact, Some!, IsTotalBy, Begins}
+use Rattle.hn_addr.proofs.Names.{Assigned, PlainView, OwnAddress, address_cmp, seen_by, State, NumberFits, IsFirstFit, Stays, start_of, ahead, adding, counts, none_chosen, KeepsOwn, DrawsOne}
+use Rattle.hn_addr.proofs.Names.{GetsNone, IsChosenFor, AreNext, Keep, Set, Choosing}
 use Rattle.hn_base.proofs.AscendingLists.{exact_nat, exact_then}
 use Rattle.hn_base.proofs.AscendingMade.{ascending_of}
 use Rattle.hn_base.proofs.SomeExists.{some_by, some_least, some_then}
 use Rattle.hn_base.proofs.SomeResult.{total_cases, total_each, total_from, total_given, total_word}
-use Rattle.hn_data.specs.View.{PlainView}
-use Rattle.hn_own.specs.Addresses.{OwnAddress, address_cmp}
-use Rattle.hn_rules.specs.Seen.{seen_by}
-use Rattle.hn_rules.specs.declared.state.State.{State}
-use Rattle.hn_addr.specs.Addresses.{NumberFits, IsFirstFit, Stays, start_of, ahead, adding, counts, none_chosen, KeepsOwn, DrawsOne, GetsNone, IsChosenFor, AreNext, IsChoice}
+use Rattle.hn_addr.specs.Addresses.{IsChoice}
 use Rattle.hn_addr.specs.Laws.{HasAChoice, ChoiceExists}
 use Rattle.hn_addr.specs.declared.choice.Choice.{Choice}
-use Rattle.hn_addr.specs.declared.choice.Choice.TheVariants.{Keep, Set}
-use Rattle.hn_addr.specs.declared.choosing.Choosing.{Choosing}
 use Rattle.hn_addr.proofs.OneChoosing.{address_told, addresses_total}
 
 -- ---- one assignment

@@ -1,12 +1,9 @@
 -- Which answers are those of bytes with a fault.
-use Rattle.std.proofs.Common.{◌≡◌, ℕ, ◌↔◌, List, Result, Ok, Err, refl}
+use Rattle.hn_base.proofs.Names.{◌≡◌, ℕ, ◌↔◌, List, Result, Ok, Err, refl}
+use Rattle.hn_advert.proofs.Names.{Advert, RaFault, IsAdvert, AdvertFault}
 use Rattle.hn_base.proofs.Results.{tells_fault, tells_none}
-use Rattle.hn_advert.specs.declared.advert.Advert.{Advert}
-use Rattle.hn_advert.specs.declared.fault.RaFault.{RaFault}
 use Rattle.hn_advert.specs.declared.fault.ReadFault.{ReadFault}
 use Rattle.hn_advert.specs.declared.fault.ReadFault.TheVariants.{Ra, NoMemory}
-use Rattle.hn_advert.specs.Advert.{IsAdvert}
-use Rattle.hn_advert.specs.Fault.{AdvertFault}
 use Rattle.hn_advert.proofs.Unique.{no_advert, same_fault}
 
 abbrev Answer : Type 0

@@ -1,17 +1,11 @@
 -- The fields of a header and of a Prefix Information option, as the numbers that their bytes make.
-use Rattle.std.proofs.Common.{◌≡◌, ℕ, zero, suc, ◌-◌, ◌*◌, ◌^◌, ◌/◌, ◌%◌, ◌<◌, ◌≤◌, Bool, not, eqb, cond, List, [], ◌∷◌, ◌++◌, length, get_or, take, drop, bit_and, Some, None, refl, sym, ap, subst}
-use Rattle.std.proofs.Common.{◌∙◌, arith}
-use Rattle.std.specs.Int.{w16, w32, w128, to_be_bytes, from_be_bytes}
-use Rattle.std.proofs.lemmas.List.{take-append-drop, get_or-take, length-take-le, length-drop}
+use Rattle.hn_base.proofs.Names.{◌≡◌, ℕ, zero, suc, ◌-◌, ◌*◌, ◌^◌, ◌/◌, ◌%◌, ◌<◌, ◌≤◌, Bool, not, eqb, cond, List, [], ◌∷◌, ◌++◌, length, get_or, take, drop, bit_and, Some, None, refl, sym, ap, subst}
+use Rattle.hn_base.proofs.Names.{◌∙◌, arith, w16, w32, w128, to_be_bytes, from_be_bytes, take-append-drop, get_or-take, length-take-le, length-drop, eq-eqb, ne_eqb, prefix_containing}
+use Rattle.hn_advert.proofs.Names.{AreOctets, octets, Info, Fixed, PrefixOption, OtherOption, HasHeaderFirst, HasOptionFirst}
 use Rattle.std.proofs.lemmas.Nat.{be_bytes_4}
 use Rattle.std.proofs.lemmas.Nat.Bits.{and_pow}
-use Rattle.std.proofs.lemmas.Bool.{eq-eqb, ne_eqb}
-use Rattle.hn_base.specs.Prefix.{prefix_containing}
-use Rattle.hn_base.proofs.BigEndian.{Bytes-from_reads, Bytes-take, Bytes-drop, whole_is, front_small, AreOctets, octets, two_bytes, two_small}
-use Rattle.hn_advert.specs.declared.advert.Info.{Info}
-use Rattle.hn_advert.specs.declared.header.Fixed.{Fixed}
-use Rattle.hn_advert.specs.Layout.{PrefixOption, OtherOption}
-use Rattle.hn_advert.specs.Reading.{HasFlags, HasHeaderFirst, HasOptionFirst}
+use Rattle.hn_base.proofs.BigEndian.{Bytes-from_reads, Bytes-take, Bytes-drop, whole_is, front_small, two_bytes, two_small}
+use Rattle.hn_advert.specs.Reading.{HasFlags}
 
 pub octets_front : (bs fs : List ℕ) (n : ℕ) → AreOctets bs → fs ≡ take n bs → AreOctets fs
 octets_front bs fs n h is = rw is (octets (take n bs) (Bytes-take n bs (Bytes-from_reads bs h)))

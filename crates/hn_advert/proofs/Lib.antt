@@ -1,3 +1,4 @@
+mod Names
 pub mod Fields
 pub mod Outcome
 pub mod Unique

@@ -1,14 +1,12 @@
 -- The one thing that stands at the beginning of some bytes, as a function: nothing, an option and what follows it, or a
 -- fault. Each relation agrees with it, so no two of them hold of the same bytes.
-use Rattle.std.proofs.Common.{◌≡◌, ℕ, ◌+◌, ◌-◌, ◌*◌, ◌<◌, ◌≤◌, true, false, cond, eqb, ltb, List, [], ◌∷◌, ◌++◌, length, get_or, take, drop, refl, ap, ◌∙◌, arith, inl, inr}
-use Rattle.std.specs.Int.{w32, w128, to_be_bytes, from_be_bytes}
-use Rattle.std.proofs.lemmas.Bool.{lt-ltb, le-ltb, eq-eqb, ne_eqb}
-use Rattle.std.proofs.lemmas.List.{take_at, drop_at, length-append, get_or-take, get_or-drop}
-use Rattle.std.proofs.lemmas.Nat.{from_be_bytes-to_be_bytes_4}
+use Rattle.hn_base.proofs.Names.{◌≡◌, ℕ, ◌+◌, ◌-◌, ◌*◌, ◌<◌, ◌≤◌, true, false, cond, eqb, ltb, List, [], ◌∷◌, ◌++◌, length, get_or, take, drop, refl, ap, ◌∙◌, arith, inl, inr, w32, w128, to_be_bytes}
+use Rattle.hn_base.proofs.Names.{from_be_bytes, lt-ltb, le-ltb, eq-eqb, ne_eqb, take_at, drop_at, get_or-take, get_or-drop, from_be_bytes-to_be_bytes_4}
+use Rattle.hn_advert.proofs.Names.{length-append, NdOption, PrefixOption, OtherOption, IsNdOption, option_bytes, HasWholeOption, IsOptionFault}
 use Rattle.hn_base.proofs.BigEndian.{number_again}
 use Rattle.hn_base.proofs.BeginningOfBytes.{Outcome, Ends, Begins, Faults, IsTold}
-use Rattle.hn_advert.specs.Layout.{PrefixInformation, IsPrefixInformation, NdOption, PrefixOption, OtherOption, IsNdOption, option_bytes}
-use Rattle.hn_advert.specs.Fault.{IsOptionCut, HasWholeOption, HasOtherSize, HasLongPrefix, IsOptionFault}
+use Rattle.hn_advert.specs.Layout.{PrefixInformation, IsPrefixInformation}
+use Rattle.hn_advert.specs.Fault.{IsOptionCut, HasOtherSize, HasLongPrefix}
 
 -- the fields of a Prefix Information option, after its type and length
 information : List ℕ → PrefixInformation

@@ -1,17 +1,10 @@
 -- A message that is read piece by piece: its header, and option after option.
-use Rattle.std.proofs.Common.{◌≡◌, ℕ, ◌+◌, ◌-◌, List, [], ◌∷◌, ◌++◌, length, Option, option_to_list, refl, sym, ap, ◌∙◌, append_assoc, arith}
-use Rattle.std.specs.List.{filter_map, cons_option}
-use Rattle.std.proofs.lemmas.Grind.{flat_map-append}
-use Rattle.std.proofs.lemmas.List.{append-nil, length-append}
+use Rattle.hn_base.proofs.Names.{◌≡◌, ℕ, ◌+◌, ◌-◌, List, [], ◌∷◌, ◌++◌, length, Option, option_to_list, refl, sym, ap, ◌∙◌, append_assoc, arith, filter_map, cons_option, flat_map-append, append-nil}
+use Rattle.hn_advert.proofs.Names.{length-append, AllByRecursion-append, Info, Advert, Fixed, header_bytes, NdOption, IsNdOption, option_bytes, info_of, AreOptions, options_bytes, IsAdvert}
+use Rattle.hn_advert.proofs.Names.{IsOptionFault, IsFirstOptionFault, HasHeaderFirst, HasOptionFirst, HasOptions, HasInfos}
 use Rattle.hn_base.proofs.PartsAtPlaces.{filter_map-push}
-use Rattle.hn_base.proofs.EachByRecursion.{AllByRecursion-append}
-use Rattle.hn_advert.specs.declared.advert.Info.{Info}
-use Rattle.hn_advert.specs.declared.advert.Advert.{Advert}
-use Rattle.hn_advert.specs.declared.header.Fixed.{Fixed}
-use Rattle.hn_advert.specs.Layout.{header_bytes, NdOption, IsNdOption, option_bytes}
-use Rattle.hn_advert.specs.Advert.{info_of, AreOptions, options_bytes, IsAdvert}
-use Rattle.hn_advert.specs.Fault.{IsOptionFault, IsFirstOptionFault, IsFaultAfterHeader}
-use Rattle.hn_advert.specs.Reading.{HasHeaderFirst, HasOptionFirst, HasOptions, HasInfos, IsFaultOfOptions}
+use Rattle.hn_advert.specs.Fault.{IsFaultAfterHeader}
+use Rattle.hn_advert.specs.Reading.{IsFaultOfOptions}
 
 -- ---- the header, and then the options
 

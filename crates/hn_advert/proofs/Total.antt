@@ -1,21 +1,12 @@
 -- Bytes are an advertisement, or they have a fault.
-use Rattle.std.proofs.Common.{◌≡◌, ℕ, zero, suc, ◌+◌, ◌*◌, ◌<◌, ◌≤◌, ◌⊎◌, not, eqb, bit_and, List, [], ◌∷◌, ◌++◌, length, get_or, take, drop, All, Option, None, refl, ap, ◌∙◌, arith, inl, inr}
-use Rattle.std.specs.Int.{w128, from_be_bytes}
-use Rattle.std.specs.List.{cons_option}
-use Rattle.std.proofs.lemmas.Bool.{cases_lt, cases_eq}
-use Rattle.std.proofs.lemmas.List.{get_or-take, get_or-append-add, length-append}
-use Rattle.std.proofs.lemmas.List.Elements.{recursion_from_All}
-use Rattle.hn_base.specs.Byte.{IsByte}
-use Rattle.hn_advert.specs.declared.advert.Info.{Info}
-use Rattle.hn_advert.specs.declared.advert.Advert.{Advert}
-use Rattle.hn_advert.specs.declared.header.Fixed.{Fixed}
-use Rattle.hn_advert.specs.Layout.{NdOption, PrefixOption, OtherOption, option_bytes}
-use Rattle.hn_advert.specs.Advert.{IsAdvert}
-use Rattle.hn_advert.specs.Fault.{units_of, HasWholeOption, IsOptionFault, IsFirstOptionFault, AdvertFault}
-use Rattle.hn_advert.specs.Reading.{HasHeaderFirst, HasOptionFirst, HasInfos}
+use Rattle.hn_base.proofs.Names.{◌≡◌, ℕ, zero, suc, ◌+◌, ◌*◌, ◌<◌, ◌≤◌, ◌⊎◌, not, eqb, bit_and, List, [], ◌∷◌, ◌++◌, length, get_or, take, drop, Option, None, refl, ap, ◌∙◌, arith, inl, inr, w128}
+use Rattle.hn_base.proofs.Names.{from_be_bytes, cons_option, cases_lt, cases_eq, get_or-take, get_or-append-add, recursion_from_All, IsByte}
+use Rattle.hn_advert.proofs.Names.{length-append, Info, Advert, Fixed, NdOption, PrefixOption, OtherOption, option_bytes, IsAdvert, HasWholeOption, IsOptionFault, IsFirstOptionFault, AdvertFault}
+use Rattle.hn_advert.proofs.Names.{HasHeaderFirst, HasOptionFirst, HasInfos, AreOctets, octets}
+use Rattle.std.proofs.Common.{All}
+use Rattle.hn_advert.specs.Fault.{units_of}
 use Rattle.hn_advert.proofs.Fields.{octets_front, octets_after, flags_in, header_begins, prefix_begins, other_begins, fixed_in}
 use Rattle.hn_advert.proofs.Steps.{advert_of_parts, has_fault, infos_cons, fault_cons}
-use Rattle.hn_base.proofs.BigEndian.{AreOctets, octets}
 
 -- ---- one option
 

@@ -1,12 +1,10 @@
 -- What the one outcome says of two readings of the same bytes.
-use Rattle.std.proofs.Common.{◌≡◌, ℕ, ◌+◌, ◌^◌, ◌<◌, Bool, true, false, List, [], ◌∷◌, ◌++◌, length, get_or, refl, sym, ap, subst, ◌∙◌, append_assoc, arith, inl, inr}
-use Rattle.std.proofs.lemmas.List.{length-append}
+use Rattle.hn_base.proofs.Names.{◌≡◌, ℕ, ◌+◌, ◌^◌, ◌<◌, Bool, true, false, List, [], ◌∷◌, ◌++◌, length, get_or, refl, sym, ap, subst, ◌∙◌, append_assoc, arith, inl, inr}
+use Rattle.hn_advert.proofs.Names.{length-append, Advert, IsHeader, header_bytes, NdOption, IsNdOption, option_bytes, AreOptions, options_bytes, IsAdvert, IsOptionFault, IsFirstOptionFault}
+use Rattle.hn_advert.proofs.Names.{AdvertFault, HasOptions}
 use Rattle.hn_base.proofs.BigEndian.{same_two, same_words}
-use Rattle.hn_advert.specs.declared.advert.Advert.{Advert}
-use Rattle.hn_advert.specs.Layout.{Header, IsHeader, flags_byte, header_bytes, NdOption, IsNdOption, option_bytes}
-use Rattle.hn_advert.specs.Advert.{AreOptions, options_bytes, IsAdvert}
-use Rattle.hn_advert.specs.Fault.{IsHeaderFault, IsOptionFault, IsFirstOptionFault, AdvertFault}
-use Rattle.hn_advert.specs.Reading.{HasOptions}
+use Rattle.hn_advert.specs.Layout.{Header, flags_byte}
+use Rattle.hn_advert.specs.Fault.{IsHeaderFault}
 use Rattle.hn_base.proofs.BeginningOfBytes as begin
 use Rattle.hn_advert.proofs.Outcome.{outcome, option_told}
 

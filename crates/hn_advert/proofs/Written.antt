@@ -1,14 +1,8 @@
 -- What is written is read again.
-use Rattle.std.proofs.Common.{◌≡◌, ℕ, ◌+◌, ◌-◌, ◌*◌, ◌/◌, ◌^◌, ◌<◌, ◌≤◌, List, [], ◌∷◌, ◌++◌, length, get_or, take, map, Option, Some, refl, sym, ap, ◌∙◌, arith}
-use Rattle.std.specs.List.{AllByRecursion, filter_map, cons_option}
-use Rattle.std.proofs.lemmas.List.{flat_map_more, map_push, take_more, take_all}
-use Rattle.std.proofs.Math.Nat.{mod-add-div'}
-use Rattle.hn_base.specs.Prefix.{PlainPrefix, IsPrefix, prefix_containing}
-use Rattle.hn_base.proofs.EachByRecursion.{AllByRecursion-append}
-use Rattle.hn_advert.specs.declared.advert.Info.{Info}
-use Rattle.hn_advert.specs.declared.advert.Advert.{Advert}
-use Rattle.hn_advert.specs.Layout.{NdOption, IsHeader, IsNdOption, header_bytes, option_bytes}
-use Rattle.hn_advert.specs.Advert.{info_of, AreOptions, options_bytes, IsAdvert, header_of, option_of, advert_bytes, IsInfo, IsInRange}
+use Rattle.hn_base.proofs.Names.{◌≡◌, ℕ, ◌+◌, ◌-◌, ◌*◌, ◌/◌, ◌^◌, ◌<◌, ◌≤◌, List, [], ◌∷◌, ◌++◌, length, get_or, take, map, Option, Some, refl, sym, ap, ◌∙◌, arith, AllByRecursion, filter_map}
+use Rattle.hn_base.proofs.Names.{cons_option, flat_map_more, map_push, take_more, take_all, mod-add-div', PlainPrefix, IsPrefix, prefix_containing}
+use Rattle.hn_advert.proofs.Names.{AllByRecursion-append, Info, Advert, NdOption, IsHeader, IsNdOption, header_bytes, option_bytes, info_of, AreOptions, options_bytes, IsAdvert}
+use Rattle.hn_advert.specs.Advert.{header_of, option_of, advert_bytes, IsInfo, IsInRange}
 
 header_fits : (a : Advert) → a.lifetime < 2 ^ 16 → IsHeader (header_of a)
 header_fits a fits = record {

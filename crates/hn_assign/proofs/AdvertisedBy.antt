@@ -1,14 +1,7 @@
 -- What is advertised of nodes and of the router's own assignments.
-use Rattle.std.proofs.Common.{◌≡◌, ◌↔◌, ◌⊎◌, ◌∙◌, ℕ, List, [], Contains, Option, None, Some, refl, sym, ap, subst, inl, inr, ⊎_elim}
+use Rattle.hn_base.proofs.Names.{◌≡◌, ◌↔◌, ◌⊎◌, ◌∙◌, ℕ, List, [], Contains, Option, None, Some, refl, sym, ap, subst, inl, inr, ⊎_elim}
+use Rattle.hn_assign.proofs.Names.{nothing_in, PlainView, HasAssigned, AssignedPrefix, Entry, Advertised, Assigned, IsSaidByNode, IsOfOther, IsOwn, IsAdvertised, own_advertised}
 use Rattle.hn_base.specs.declared.ids.NodeId.{NodeId}
-use Rattle.hn_base.proofs.AscendingLists.{nothing_in}
-use Rattle.hn_data.specs.View.{PlainView}
-use Rattle.hn_data.specs.Said.{HasAssigned}
-use Rattle.hn_data.specs.declared.said.AssignedPrefix.{AssignedPrefix}
-use Rattle.hn_data.specs.declared.view.Entry.{Entry}
-use Rattle.hn_assign.specs.declared.assigned.Advertised.{Advertised}
-use Rattle.hn_assign.specs.declared.assigned.Assigned.{Assigned}
-use Rattle.hn_assign.specs.Gathered.{IsSaidByNode, IsOfOther, IsOwn, IsAdvertised, own_advertised}
 use Rattle.hn_assign.proofs.GrownByEach.{Of}
 
 -- what a node says by an Assigned-Prefix

@@ -1,23 +1,13 @@
 -- A list that is strictly ascending by pairs: the part before a pair, what is there, and the part after it.
-use Rattle.std.proofs.Common.{◌≡◌, ◌↔◌, ◌⊎◌, ℕ, ◌+◌, ◌-◌, ◌<◌, ◌≤◌, suc, zero, List, [], ◌∷◌, ◌++◌, length, take, drop, get_or, Contains}
-use Rattle.std.proofs.Common.{Option, Some, None, IfSome, Result, Ok, Err, false, IsTrue, is_ok, refl, sym, ap, ◌∙◌, subst, inl, inr, ⊎_elim, arith}
-use Rattle.std.specs.declared.cmp.Ordering.TheVariants.{Less, Greater}
-use Rattle.std.specs.List.{AllByRecursion, AllWithin, slice_get}
-use Rattle.std.specs.List.Sorted.{IsStrictlySortedBy, IsSearchInRange, IsBinarySearchResult}
+use Rattle.hn_base.proofs.Names.{◌≡◌, ◌↔◌, ◌⊎◌, ℕ, ◌+◌, ◌-◌, ◌<◌, ◌≤◌, suc, zero, List, [], ◌∷◌, ◌++◌, length, take, drop, get_or, Contains, Option, Some, None, IfSome, Result, Ok, Err, false, IsTrue}
+use Rattle.hn_base.proofs.Names.{is_ok, refl, sym, ap, ◌∙◌, subst, inl, inr, ⊎_elim, arith, Less, Greater, AllByRecursion, AllWithin, IsSearchInRange, IsBinarySearchResult, on, ordering_reverse}
+use Rattle.hn_base.proofs.Names.{is_lt, drop-cons, cases_lt, take-append-drop, get_or_from_slice_get, All-contains, All-from_recursion, Contains-append_left, Contains-append_right}
+use Rattle.hn_base.proofs.Names.{Contains-append_cases, Contains-get_or, searchable_from_sorted, sorted_head, sorted_tail, Less-from_sorted, HasAt}
+use Rattle.hn_assign.proofs.Names.{not_below_itself, Contains-head, Contains-tail, Contains-cases, Pair, pair_cmp, IsAscending, IsPlaceOfPair, Updates}
+use Rattle.std.specs.List.{slice_get}
+use Rattle.std.specs.List.Sorted.{IsStrictlySortedBy}
 use Rattle.std.specs.Option.{option_to_list}
-use Rattle.std.specs.Ordering.{on, ordering_reverse, is_lt}
-use Rattle.std.proofs.Math.Seq.{drop-cons}
-use Rattle.std.proofs.lemmas.Bool.{cases_lt}
-use Rattle.std.proofs.lemmas.List.{take-append-drop}
-use Rattle.std.proofs.lemmas.Option.{get_or_from_slice_get}
-use Rattle.std.proofs.lemmas.List.Elements.{All-contains, All-from_recursion, Contains-append_left, Contains-append_right, Contains-append_cases, Contains-get_or}
-use Rattle.std.proofs.lemmas.List.Sorted.{searchable_from_sorted}
-use Rattle.std.proofs.lemmas.Map.Keys.{sorted_head, sorted_tail, Less-from_sorted}
-use Rattle.hn_base.proofs.AscendingLists.{not_below_itself, Contains-head, Contains-tail, Contains-cases}
 use Rattle.hn_base.proofs.EachByRecursion.{AllByRecursion-append, AllByRecursion-weaker}
-use Rattle.hn_assign.specs.declared.pair.Pair.{Pair}
-use Rattle.hn_base.specs.Ascending.{HasAt}
-use Rattle.hn_assign.specs.Pair.{pair_cmp, IsAscending, IsPlaceOfPair, Updates}
 use Rattle.hn_assign.proofs.Orders.{pair_total, pair_exact}
 
 pub greater_is_above : (p q : Pair) → pair_cmp p q ≡ Greater → pair_cmp q p ≡ Less

@@ -1,14 +1,9 @@
 -- What lists that ascend by pairs have for a pair.
-use Rattle.std.proofs.Common.{◌≡◌, ◌∙◌, ◌↔◌, ◌⊎◌, List, Contains, Option, None, Some, sym, subst, ⊎_elim}
-use Rattle.std.specs.Ordering.{on}
-use Rattle.std.proofs.lemmas.Cmp.{on_total}
+use Rattle.hn_base.proofs.Names.{◌≡◌, ◌∙◌, ◌↔◌, ◌⊎◌, List, Contains, Option, None, Some, sym, subst, ⊎_elim, on, on_total, HasAt}
+use Rattle.hn_assign.proofs.Names.{Wish, Pair, pair_cmp, IsAscending, Updates, KeepsWished}
 use Rattle.hn_base.proofs.AscendingLists.{ascending_unique}
 use Rattle.hn_base.proofs.AtKey as base
 use Rattle.hn_base.proofs.DecidingTests.{cases_by}
-use Rattle.hn_assign.specs.declared.assigned.Wish.{Wish}
-use Rattle.hn_assign.specs.declared.pair.Pair.{Pair}
-use Rattle.hn_base.specs.Ascending.{HasAt}
-use Rattle.hn_assign.specs.Pair.{pair_cmp, IsAscending, Updates, KeepsWished}
 use Rattle.hn_assign.proofs.Orders.{pair_total, pair_exact}
 
 -- two pairs are the same, or not

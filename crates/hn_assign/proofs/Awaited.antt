@@ -1,21 +1,7 @@
 -- Each backoff is due soon through the subroutine.
-use Rattle.std.proofs.Common.{◌≡◌, ◌⊎◌, ℕ, ◌+◌, ◌%◌, ◌≤◌, List, [], ◌∷◌, Option, None, Some, IfSome, sym, subst, inl, inr, ⊎_elim, arith}
-use Rattle.std.specs.Prelude.{All}
-use Rattle.hn_base.specs.Ascending.{HasAt}
-use Rattle.hn_data.specs.View.{PlainView}
-use Rattle.hn_assign.specs.declared.assigned.Advertised.{Advertised}
-use Rattle.hn_assign.specs.declared.assigned.Assigned.{Assigned}
-use Rattle.hn_assign.specs.declared.assigned.Wish.{Wish}
-use Rattle.hn_assign.specs.declared.backoff.Backoff.{Backoff}
-use Rattle.hn_assign.specs.declared.held.Held.{Held}
-use Rattle.hn_assign.specs.declared.held.Ran.{Ran}
-use Rattle.hn_assign.specs.declared.slot.Slot.{Slot}
+use Rattle.hn_base.proofs.Names.{◌≡◌, ◌⊎◌, ℕ, ◌+◌, ◌%◌, ◌≤◌, List, [], ◌∷◌, Option, None, Some, IfSome, sym, subst, inl, inr, ⊎_elim, arith, All, HasAt}
+use Rattle.hn_assign.proofs.Names.{PlainView, Advertised, Assigned, Wish, Backoff, Held, Ran, Slot, IfValid, IsLine, backoff_pair, wish_pair, PlainScene, scene_of, IsPairStep, AreSteps, IsSubroutine}
 use Rattle.hn_assign.specs.Facts.{IsSoonDue}
-use Rattle.hn_assign.specs.Lines.{IfValid, IsLine}
-use Rattle.hn_assign.specs.Pair.{backoff_pair, wish_pair}
-use Rattle.hn_assign.specs.Scene.{PlainScene, scene_of}
-use Rattle.hn_assign.specs.Step.{IsPairStep}
-use Rattle.hn_assign.specs.Subroutine.{AreSteps, IsSubroutine}
 use Rattle.hn_assign.proofs.AtPair.{pair_cases, is_had}
 use Rattle.hn_assign.proofs.KeptFacts.{Each, each_all, all_each}
 

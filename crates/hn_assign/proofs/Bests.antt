@@ -1,13 +1,9 @@
 -- The best of a list that grows.
-use Rattle.std.proofs.Common.{◌≡◌, ◌≢◌, ℕ, ◌⊎◌, true, false, cond, List, [], ◌∷◌, ◌++◌, Contains, Option, Some, None, MatchOption, Ordering, refl, sym, subst, ap, ◌∙◌, inl, inr, ⊎_elim}
-use Rattle.std.specs.declared.cmp.Ordering.TheVariants.{Less, Equal, Greater}
-use Rattle.std.specs.Ordering.{is_lt, is_gt, ordering_reverse}
-use Rattle.std.proofs.lemmas.Cmp.{upto, tied_itself}
-use Rattle.std.proofs.lemmas.List.Elements.{Contains-push, Contains-push_cases, Contains-append_left}
-use Rattle.hn_base.specs.Prefix.{PlainPrefix, IsWithin}
-use Rattle.hn_assign.specs.declared.assigned.Advertised.{Advertised}
-use Rattle.hn_assign.specs.Advertised.{LinkEndpoints, IsAdvertisedOnLink, advertised_cmp}
-use Rattle.hn_assign.specs.Best.{IsCandidatePrefix, IsBest, IsBestIfAny}
+use Rattle.hn_base.proofs.Names.{◌≡◌, ◌≢◌, ℕ, ◌⊎◌, true, false, cond, List, [], ◌∷◌, ◌++◌, Contains, Option, Some, None, Ordering, refl, sym, subst, ap, ◌∙◌, inl, inr, ⊎_elim, Less, Equal, Greater}
+use Rattle.hn_base.proofs.Names.{is_lt, is_gt, ordering_reverse, tied_itself, Contains-push, Contains-push_cases, Contains-append_left, PlainPrefix, IsWithin}
+use Rattle.hn_assign.proofs.Names.{Advertised, LinkEndpoints, IsAdvertisedOnLink, advertised_cmp, IsCandidatePrefix, IsBest, IsBestIfAny}
+use Rattle.std.proofs.Common.{MatchOption}
+use Rattle.std.proofs.lemmas.Cmp.{upto}
 use Rattle.hn_assign.proofs.Orders.{advertised_total}
 
 -- what makes an advertised prefix a candidate

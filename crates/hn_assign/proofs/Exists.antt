@@ -1,21 +1,14 @@
 -- A view has a list of advertised prefixes.
-use Rattle.std.proofs.Common.{◌≡◌, ◌↔◌, ◌∙◌, ◌⊎◌, ℕ, List, [], ◌∷◌, ◌++◌, map, Option, None, Some, Contains, refl, sym, subst, inl, inr}
-use Rattle.std.specs.List.{filter_map}
-use Rattle.std.proofs.lemmas.Bool.{cases_eq}
-use Rattle.std.proofs.lemmas.List.Elements.{Contains-append_cases, Contains-append_left, Contains-append_right}
-use Rattle.std.proofs.lemmas.Option.{none-some}
-use Rattle.hn_base.proofs.AscendingLists.{Contains-head, Contains-tail, Contains-cases, Contains-one, Contains-map, Contains-from_map, nothing_in}
+use Rattle.hn_base.proofs.Names.{◌≡◌, ◌↔◌, ◌∙◌, ◌⊎◌, ℕ, List, [], ◌∷◌, ◌++◌, map, Option, None, Some, Contains, refl, sym, subst, inl, inr, filter_map, cases_eq, Contains-append_cases}
+use Rattle.hn_base.proofs.Names.{Contains-append_left, Contains-append_right, none-some}
+use Rattle.hn_assign.proofs.Names.{Contains-head, Contains-tail, Contains-cases, Contains-map, Contains-from_map, nothing_in, PlainItem, HasAssigned, HasVersion, assigned_prefix_of, AssignedPrefix}
+use Rattle.hn_assign.proofs.Names.{Entry, Advertised, Assigned, IsSaidByNode, IsOfOther, IsOwn, IsAdvertised, own_advertised, AdvertisedExists}
+use Rattle.hn_base.proofs.AscendingLists.{Contains-one}
 use Rattle.hn_base.proofs.SoOrNot.{Decided}
-use Rattle.hn_typed.specs.Item.{PlainItem, PlainCaps}
+use Rattle.hn_typed.specs.Item.{PlainCaps}
 use Rattle.hn_data.specs.Items.{AreItems}
 use Rattle.hn_data.specs.Laws.{ItemsAreUnique, ItemsOrNone}
-use Rattle.hn_data.specs.Said.{HasAssigned, HasVersion, assigned_prefix_of, version_of}
-use Rattle.hn_data.specs.declared.said.AssignedPrefix.{AssignedPrefix}
-use Rattle.hn_data.specs.declared.view.Entry.{Entry}
-use Rattle.hn_assign.specs.declared.assigned.Advertised.{Advertised}
-use Rattle.hn_assign.specs.declared.assigned.Assigned.{Assigned}
-use Rattle.hn_assign.specs.Gathered.{IsSaidByNode, IsOfOther, IsOwn, IsAdvertised, own_advertised}
-use Rattle.hn_assign.specs.Laws.{AdvertisedExists}
+use Rattle.hn_data.specs.Said.{version_of}
 use Rattle.hn_assign.proofs.AdvertisedBy.{said_by, of_node, own_some}
 use Rattle.hn_assign.proofs.GrownByEach.{Of}
 

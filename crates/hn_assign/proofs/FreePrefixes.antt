@@ -1,11 +1,8 @@
 -- Free prefixes among the advertised ones.
-use Rattle.std.proofs.Common.{◌≡◌, ◌↔◌, ℕ, ◌+◌, ◌%◌, ◌<◌, ◌≤◌, List, map, Option, None, Some, IfSome, IfNone, IsNone, refl, sym, subst, arith}
-use Rattle.std.proofs.lemmas.List.Elements.{All-contains}
-use Rattle.hn_base.specs.Prefix.{PlainPrefix, IsPrefix, IsWithin, Overlaps}
-use Rattle.hn_prefix.specs.Free.{IsFree, IsTakenPrefix, IsFull, IsFirstFree, IsSubPrefix, IsPrefixInside, sub_prefix_count}
-use Rattle.hn_base.proofs.AscendingLists.{Contains-map, Contains-from_map}
-use Rattle.hn_assign.specs.declared.assigned.Advertised.{Advertised}
-use Rattle.hn_assign.specs.Best.{IsFreeIn, HasNoFree}
+use Rattle.hn_base.proofs.Names.{◌≡◌, ◌↔◌, ℕ, ◌+◌, ◌%◌, ◌<◌, ◌≤◌, List, map, Option, None, Some, IfSome, refl, sym, subst, arith, All-contains, PlainPrefix, IsPrefix, IsWithin, Overlaps}
+use Rattle.hn_assign.proofs.Names.{IsFree, IsTakenPrefix, IsFirstFree, Contains-map, Contains-from_map, Advertised, IsFreeIn, HasNoFree}
+use Rattle.std.proofs.Common.{IfNone, IsNone}
+use Rattle.hn_prefix.specs.Free.{IsFull, IsSubPrefix, IsPrefixInside, sub_prefix_count}
 
 -- the prefixes of advertised ones
 abbrev pub prefixes : List Advertised → List PlainPrefix

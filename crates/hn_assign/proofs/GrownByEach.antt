@@ -1,7 +1,7 @@
 -- A list that grows by what belongs to the elements that a loop goes over.
-use Rattle.std.proofs.Common.{◌≡◌, ◌↔◌, ◌⊎◌, ℕ, ◌+◌, ◌<◌, List, [], ◌∷◌, ◌++◌, length, take, get_or, Contains, sym, subst, inl, inr, ⊎_elim, arith}
-use Rattle.std.proofs.lemmas.List.Elements.{Contains-push, Contains-push_cases, Contains-append_left}
-use Rattle.hn_base.proofs.FrontOfList.{front_more}
+use Rattle.hn_base.proofs.Names.{◌≡◌, ◌↔◌, ◌⊎◌, ℕ, ◌+◌, ◌<◌, List, [], ◌∷◌, ◌++◌, length, take, get_or, Contains, sym, subst, inl, inr, ⊎_elim, arith, Contains-push, Contains-push_cases}
+use Rattle.hn_base.proofs.Names.{Contains-append_left}
+use Rattle.hn_assign.proofs.Names.{front_more}
 
 module _ {A B : Type 0} (belongs : B → A → Type 0) where
   -- what belongs to some element of a list

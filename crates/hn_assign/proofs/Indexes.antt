@@ -1,17 +1,10 @@
 -- What a part of the advertised prefixes tells of all: those that start inside a prefix, and the short ones.
-use Rattle.std.proofs.Common.{◌≡◌, ◌∙◌, ℕ, ◌/◌, ◌-◌, ◌^◌, ◌<◌, ◌≤◌, ◌⊎◌, inl, inr, List, Contains, Option, Some, None, nat_lt, refl, sym, subst, ⊎_elim, lt-ltb, arith}
-use Rattle.std.proofs.lemmas.Bool.{cases_lt}
-use Rattle.hn_base.specs.Ascending.{HaveSame}
-use Rattle.hn_base.specs.Prefix.{PlainPrefix, IsInside, Overlaps}
+use Rattle.hn_base.proofs.Names.{◌≡◌, ◌∙◌, ℕ, ◌/◌, ◌-◌, ◌^◌, ◌<◌, ◌≤◌, ◌⊎◌, inl, inr, List, Contains, Option, Some, None, nat_lt, refl, sym, subst, ⊎_elim, arith, cases_lt, HaveSame, PlainPrefix}
+use Rattle.hn_base.proofs.Names.{IsInside, Overlaps}
+use Rattle.hn_assign.proofs.Names.{PlainView, Advertised, Assigned, LinkEndpoints, IsCandidatePrefix, IsBestIfAny, IsValid, AreAdvertised, short_of}
+use Rattle.std.proofs.Common.{lt-ltb}
 use Rattle.hn_base.proofs.Elements.{in_filter, from_filter}
 use Rattle.hn_base.proofs.LeadingBits.{alike_in_shorter}
-use Rattle.hn_data.specs.View.{PlainView}
-use Rattle.hn_assign.specs.declared.assigned.Advertised.{Advertised}
-use Rattle.hn_assign.specs.declared.assigned.Assigned.{Assigned}
-use Rattle.hn_assign.specs.Advertised.{LinkEndpoints}
-use Rattle.hn_assign.specs.Best.{IsCandidatePrefix, IsBestIfAny, IsValid}
-use Rattle.hn_assign.specs.Gathered.{AreAdvertised}
-use Rattle.hn_assign.specs.Indexed.{short_of}
 
 -- the same in another order are as advertised
 pub advertised_same : (view : PlainView) (assigned : List Assigned) (a b : List Advertised) → HaveSame a b → AreAdvertised view assigned b → AreAdvertised view assigned a

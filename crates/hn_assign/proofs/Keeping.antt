@@ -1,13 +1,7 @@
 -- A loop that keeps the elements of wished pairs.
-use Rattle.std.proofs.Common.{◌≡◌, ◌↔◌, ◌∙◌, ℕ, ◌+◌, ◌<◌, ◌≤◌, suc, List, [], ◌∷◌, ◌++◌, length, take, drop, get_or, Contains, sym, ap, subst, ⊎_elim, append_assoc, add-one}
-use Rattle.std.proofs.Math.Seq.{drop-cons}
-use Rattle.std.proofs.lemmas.List.{take_all, append-nil, drop_all}
-use Rattle.std.proofs.lemmas.List.Elements.{Contains-push, Contains-push_cases, Contains-append_left}
-use Rattle.hn_base.proofs.AscendingLists.{nothing_in}
-use Rattle.hn_assign.specs.declared.assigned.Wish.{Wish}
-use Rattle.hn_assign.specs.declared.pair.Pair.{Pair}
-use Rattle.hn_assign.specs.Pair.{IsAscending, IsWished, KeepsWished}
-use Rattle.hn_base.proofs.FrontOfList.{front_more}
+use Rattle.hn_base.proofs.Names.{◌≡◌, ◌↔◌, ◌∙◌, ℕ, ◌+◌, ◌<◌, ◌≤◌, suc, List, [], ◌∷◌, ◌++◌, length, take, drop, get_or, Contains, sym, ap, subst, ⊎_elim, append_assoc, add-one, drop-cons, take_all}
+use Rattle.hn_base.proofs.Names.{append-nil, drop_all, Contains-push, Contains-push_cases, Contains-append_left}
+use Rattle.hn_assign.proofs.Names.{nothing_in, Wish, Pair, IsAscending, IsWished, KeepsWished, front_more}
 use Rattle.hn_assign.proofs.AroundPair.{ascending_without}
 
 module _ {A : Type 0} (key : A → Pair) (wishes : List Wish) where

@@ -1,34 +1,15 @@
 -- What holds of each assignment through the subroutine.
-use Rattle.std.proofs.Common.{◌≡◌, ◌∙◌, ◌⊎◌, ℕ, ◌-◌, Bool, true, false, cond, leb, arith, List, [], ◌∷◌, Contains, map, Option, None, Some, IfSome, refl, sym, ap, subst, inl, inr, ⊎_elim}
-use Rattle.std.specs.Prelude.{All}
-use Rattle.std.proofs.lemmas.List.Elements.{All-contains, Contains-get_or}
-use Rattle.std.proofs.lemmas.Option.{same_Some, none-some}
+use Rattle.hn_base.proofs.Names.{◌≡◌, ◌∙◌, ◌⊎◌, ℕ, ◌-◌, Bool, true, false, cond, leb, arith, List, [], ◌∷◌, Contains, map, Option, None, Some, IfSome, refl, sym, ap, subst, inl, inr, ⊎_elim, All}
+use Rattle.hn_base.proofs.Names.{All-contains, Contains-get_or, same_Some, none-some, PlainPrefix, IsPrefix, IsWithin, HasAt}
+use Rattle.hn_assign.proofs.Names.{PlainItem, assigned_prefix_of, HasAssigned, PlainView, AssignedPrefix, EpId, Contains-cases, Contains-from_map, Contains-head, Contains-tail, nothing_in, Advertised}
+use Rattle.hn_assign.proofs.Names.{Assigned, Wish, Held, Ran, Slot, IsAdvertised, AreAdvertised, IfValid, IsLine, IsPairTurn, marked_applied, assigned_pair, wish_pair, PlainScene, IsBestFor}
+use Rattle.hn_assign.proofs.Names.{IsFreeFor, new_assigned, scene_of, IsPairStep, AreSteps, IsSubroutine}
 use Rattle.hn_tlv.specs.Grammar.{PlainTlv}
-use Rattle.hn_typed.specs.Item.{PlainItem, Assigned as AssignedItem}
+use Rattle.hn_typed.specs.Item.{Assigned as AssignedItem}
 use Rattle.hn_typed.specs.Table.{InRange}
 use Rattle.hn_data.specs.Items.{IsReading}
-use Rattle.hn_data.specs.Said.{assigned_prefix_of, HasAssigned}
-use Rattle.hn_data.specs.View.{PlainView}
-use Rattle.hn_data.specs.declared.said.AssignedPrefix.{AssignedPrefix}
-use Rattle.hn_base.specs.Prefix.{PlainPrefix, IsPrefix, IsWithin}
-use Rattle.hn_base.specs.declared.ids.EpId.{EpId}
-use Rattle.hn_base.proofs.AscendingLists.{Contains-cases, Contains-from_map, Contains-head, Contains-tail, nothing_in}
 use Rattle.hn_base.proofs.Elements.{from_filter_map}
-use Rattle.hn_assign.specs.declared.assigned.Advertised.{Advertised}
-use Rattle.hn_assign.specs.declared.assigned.Assigned.{Assigned}
-use Rattle.hn_assign.specs.declared.assigned.Wish.{Wish}
-use Rattle.hn_assign.specs.declared.held.Held.{Held}
-use Rattle.hn_assign.specs.declared.held.Ran.{Ran}
-use Rattle.hn_assign.specs.declared.slot.Slot.{Slot}
 use Rattle.hn_assign.specs.Facts.{IsInDelegated, IsAssignedPast, HasOwnPriority, IsOfLengthAt, IsAloneAt}
-use Rattle.hn_assign.specs.Gathered.{IsAdvertised, AreAdvertised}
-use Rattle.hn_assign.specs.Lines.{IfValid, IsLine, IsPairTurn}
-use Rattle.hn_assign.specs.Marks.{marked_applied}
-use Rattle.hn_base.specs.Ascending.{HasAt}
-use Rattle.hn_assign.specs.Pair.{assigned_pair, wish_pair}
-use Rattle.hn_assign.specs.Scene.{PlainScene, IsBestFor, IsFreeFor, new_assigned, scene_of}
-use Rattle.hn_assign.specs.Step.{IsPairStep}
-use Rattle.hn_assign.specs.Subroutine.{AreSteps, IsSubroutine}
 use Rattle.hn_assign.proofs.AtPair.{pair_cases, is_had}
 
 -- of each element

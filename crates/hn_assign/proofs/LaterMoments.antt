@@ -1,22 +1,10 @@
 -- What is advertised, and who is at rest, while time passes, assignments are marked applied and less is wanted.
-use Rattle.std.proofs.Common.{◌≡◌, ◌∙◌, ℕ, List, Contains, map, Option, None, Some, sym, ap, subst, inl, inr, ⊎_elim}
-use Rattle.hn_base.proofs.AscendingLists.{Contains-map, Contains-from_map}
-use Rattle.hn_base.specs.declared.ids.EpId.{EpId}
-use Rattle.hn_base.specs.Key.{IsAbove}
-use Rattle.hn_base.specs.Prefix.{PlainPrefix}
-use Rattle.hn_data.specs.Later.{IsLater, aged_entry}
-use Rattle.hn_data.specs.View.{PlainView}
-use Rattle.hn_data.specs.declared.view.Entry.{Entry}
-use Rattle.hn_assign.specs.declared.assigned.Advertised.{Advertised}
-use Rattle.hn_assign.specs.declared.assigned.Assigned.{Assigned}
-use Rattle.hn_assign.specs.declared.assigned.Wish.{Wish}
-use Rattle.hn_assign.specs.Advertised.{LinkEndpoints, key_of}
-use Rattle.hn_assign.specs.Best.{IsBestIfAny, IsValid, HasNoFree}
-use Rattle.hn_assign.specs.Fixed.{unmarked, AreAtRest}
-use Rattle.hn_assign.specs.Gathered.{IsOfOther, IsOwn, IsAdvertised, own_advertised}
+use Rattle.hn_base.proofs.Names.{◌≡◌, ◌∙◌, ℕ, List, Contains, map, Option, None, Some, sym, ap, subst, inl, inr, ⊎_elim, IsAbove, PlainPrefix}
+use Rattle.hn_assign.proofs.Names.{Contains-map, Contains-from_map, EpId, IsLater, PlainView, Entry, Advertised, Assigned, Wish, LinkEndpoints, key_of, IsBestIfAny, IsValid, HasNoFree, unmarked}
+use Rattle.hn_assign.proofs.Names.{AreAtRest, IsOfOther, IsOwn, IsAdvertised, own_advertised, assigned_pair, IsAtRest}
+use Rattle.hn_data.specs.Later.{aged_entry}
 use Rattle.hn_assign.specs.Laws.{AdvertisedOfLater, AdvertisedOfUnchanged, RestStays, RestStaysUnwanted}
-use Rattle.hn_assign.specs.Pair.{assigned_pair}
-use Rattle.hn_assign.specs.Rest.{IsAtRest, IsWantedNoMore}
+use Rattle.hn_assign.specs.Rest.{IsWantedNoMore}
 
 -- ---- the same network at a later moment
 

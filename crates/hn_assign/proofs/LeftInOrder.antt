@@ -1,17 +1,7 @@
 -- What the subroutine leaves: lists in order, of wished pairs.
-use Rattle.std.proofs.Common.{◌≡◌, ◌∙◌, List, [], ◌∷◌, Contains, Option, sym, ap, subst, ⊎_elim}
-use Rattle.std.specs.Prelude.{All}
-use Rattle.hn_base.proofs.AscendingLists.{Contains-from_map, Contains-head, Contains-tail}
-use Rattle.hn_data.specs.View.{PlainView}
-use Rattle.hn_assign.specs.declared.assigned.Assigned.{Assigned}
-use Rattle.hn_assign.specs.declared.assigned.Wish.{Wish}
-use Rattle.hn_assign.specs.declared.backoff.Backoff.{Backoff}
-use Rattle.hn_assign.specs.declared.held.Held.{Held}
-use Rattle.hn_assign.specs.declared.held.Ran.{Ran}
-use Rattle.hn_assign.specs.declared.pair.Pair.{Pair}
-use Rattle.hn_assign.specs.Marks.{marked_applied}
-use Rattle.hn_assign.specs.Pair.{assigned_pair, backoff_pair, wish_pair, IsAscending, IsWished, Updates}
-use Rattle.hn_assign.specs.Subroutine.{AreSteps, IsSubroutine}
+use Rattle.hn_base.proofs.Names.{◌≡◌, ◌∙◌, List, [], ◌∷◌, Contains, Option, sym, ap, subst, ⊎_elim, All}
+use Rattle.hn_assign.proofs.Names.{Contains-from_map, Contains-head, Contains-tail, PlainView, Assigned, Wish, Backoff, Held, Ran, Pair, marked_applied, assigned_pair, backoff_pair, wish_pair}
+use Rattle.hn_assign.proofs.Names.{IsAscending, IsWished, Updates, AreSteps, IsSubroutine}
 use Rattle.hn_assign.proofs.AtPair.{pair_cases}
 use Rattle.hn_assign.proofs.KeptFacts.{Each, each_all}
 use Rattle.hn_assign.proofs.Marking.{ascending_marked, marked_pair}

@@ -1,3 +1,4 @@
+mod Names
 pub mod AdvertisedBy
 pub mod AroundPair
 mod AtPair

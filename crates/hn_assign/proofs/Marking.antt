@@ -1,11 +1,6 @@
 -- Marks of application leave pairs, and the order, as they are.
-use Rattle.std.proofs.Common.{◌≡◌, ℕ, ◌-◌, Bool, true, false, cond, leb, List, [], ◌∷◌, map, ap, refl, sym, subst}
-use Rattle.std.specs.List.Sorted.{IsStrictlySortedBy}
-use Rattle.hn_base.proofs.AscendingLists.{sorted_parts}
-use Rattle.hn_assign.specs.declared.assigned.Assigned.{Assigned}
-use Rattle.hn_assign.specs.declared.pair.Pair.{Pair}
-use Rattle.hn_assign.specs.Marks.{marked_applied}
-use Rattle.hn_assign.specs.Pair.{assigned_pair, pair_cmp, IsAscending}
+use Rattle.hn_base.proofs.Names.{◌≡◌, ℕ, ◌-◌, Bool, true, false, cond, leb, List, [], ◌∷◌, map, ap, refl, sym, subst, IsStrictlySortedBy}
+use Rattle.hn_assign.proofs.Names.{sorted_parts, Assigned, Pair, marked_applied, assigned_pair, pair_cmp, IsAscending}
 
 -- what is marked is the assignment, apart from the mark
 pub marked_is : (now : ℕ) (c : Assigned) → record (marked_applied now c) { applied = false } ≡ record c { applied = false }

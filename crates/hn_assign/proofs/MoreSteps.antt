@@ -1,12 +1,8 @@
 -- Steps one after another.
-use Rattle.std.proofs.Common.{ℕ, List, [], ◌∷◌, ◌++◌, Option, refl, sym, subst}
-use Rattle.hn_data.specs.View.{PlainView}
-use Rattle.hn_base.specs.Words.{Took}
+use Rattle.hn_base.proofs.Names.{ℕ, List, [], ◌∷◌, ◌++◌, Option, refl, sym, subst, Took}
+use Rattle.hn_assign.proofs.Names.{PlainView, Wish, Ran, IsPairStep, AreSteps}
 use Rattle.hn_io.specs.Laws.{WordsJoin}
-use Rattle.hn_assign.specs.declared.assigned.Wish.{Wish}
-use Rattle.hn_assign.specs.declared.held.Ran.{Ran}
-use Rattle.hn_assign.specs.Step.{IsPairStep, StepTook}
-use Rattle.hn_assign.specs.Subroutine.{AreSteps}
+use Rattle.hn_assign.specs.Step.{StepTook}
 
 -- one step more
 pub steps_more : (view : PlainView) (wishes : List Wish) (wish : Wish) (words : List ℕ) (before between after : Ran)

@@ -1,24 +1,10 @@
 -- A line of the table, a step and the subroutine have at most one result over one stream of words.
-use Rattle.std.proofs.Common.{◌≡◌, ◌∙◌, ◌⊎◌, ℕ, ◌<◌, ◌≤◌, ◌%◌, IsTrue, List, [], ◌∷◌, ◌++◌, Option, None, Some, sym, ap, subst, inl, inr, arith}
-use Rattle.hn_data.specs.View.{PlainView}
-use Rattle.hn_base.specs.Words.{Begins}
-use Rattle.hn_base.specs.Prefix.{PlainPrefix}
-use Rattle.hn_assign.specs.declared.assigned.Advertised.{Advertised}
-use Rattle.hn_assign.specs.declared.assigned.Assigned.{Assigned}
-use Rattle.hn_assign.specs.declared.assigned.Wish.{Wish}
-use Rattle.hn_assign.specs.declared.backoff.Backoff.{Backoff}
-use Rattle.hn_assign.specs.declared.held.Held.{Held}
-use Rattle.hn_assign.specs.declared.held.Ran.{Ran}
-use Rattle.hn_assign.specs.declared.slot.Slot.{Slot}
-use Rattle.hn_assign.specs.Lines.{IfValid, IsLine, IsPairTurn}
-use Rattle.hn_assign.specs.Pair.{assigned_pair, backoff_pair, wish_pair, IsAscending, Updates}
-use Rattle.hn_assign.specs.Scene.{PlainScene, IsFreeFor, HasNoFreeFor, IsFirstFreeFor, new_assigned, scene_of}
-use Rattle.hn_assign.specs.Step.{IsPairStep}
-use Rattle.hn_assign.specs.Subroutine.{AreSteps, IsSubroutine, with_marks}
-use Rattle.hn_assign.specs.Unassigned.{IsUnassigned, backoff_after}
+use Rattle.hn_base.proofs.Names.{◌≡◌, ◌∙◌, ◌⊎◌, ℕ, ◌<◌, ◌≤◌, ◌%◌, IsTrue, List, [], ◌∷◌, ◌++◌, Option, None, Some, sym, ap, subst, inl, inr, arith, Begins, PlainPrefix, HaveSame}
+use Rattle.hn_assign.proofs.Names.{PlainView, Advertised, Assigned, Wish, Backoff, Held, Ran, Slot, IfValid, IsLine, IsPairTurn, assigned_pair, backoff_pair, wish_pair, IsAscending, Updates}
+use Rattle.hn_assign.proofs.Names.{PlainScene, IsFreeFor, HasNoFreeFor, IsFirstFreeFor, new_assigned, scene_of, IsPairStep, AreSteps, IsSubroutine, with_marks, backoff_after}
+use Rattle.hn_assign.specs.Unassigned.{IsUnassigned}
 use Rattle.hn_assign.proofs.AtPair.{has_one, updates_one, keeps_one}
 use Rattle.hn_base.proofs.FirstWords.{begins_front, same_word}
-use Rattle.hn_base.specs.Ascending.{HaveSame}
 use Rattle.hn_assign.proofs.SameAdvertised.{same_back, same_advertised, best_in, best_one, valid_in, free_in, first_one}
 
 -- what comes of a turn: what the pair has, and the words

@@ -1,18 +1,8 @@
 -- The orders of pairs and of advertised prefixes are total, and only equal ones are equal by them.
-use Rattle.std.proofs.Common.{◌≡◌, rules}
-use Rattle.std.specs.Cmp.{IsTotalOrder}
-use Rattle.std.specs.Cmp.Rules.{comparing}
-use Rattle.std.specs.Ordering.{nat_cmp}
-use Rattle.std.proofs.lemmas.Cmp.{on_total, then_total}
-use Rattle.hn_base.specs.Ascending.{IsExact}
-use Rattle.hn_base.specs.Key.{key_cmp}
+use Rattle.hn_base.proofs.Names.{◌≡◌, rules, IsTotalOrder, comparing, nat_cmp, on_total, then_total, IsExact, key_cmp, prefix_cmp}
+use Rattle.hn_assign.proofs.Names.{Advertised, Pair, advertised_cmp, pair_cmp}
 use Rattle.hn_base.proofs.AscendingLists.{exact_nat, exact_then}
 use Rattle.hn_base.proofs.Keys.{key_total, exact_key}
-use Rattle.hn_base.specs.Prefix.{prefix_cmp}
-use Rattle.hn_assign.specs.declared.assigned.Advertised.{Advertised}
-use Rattle.hn_assign.specs.declared.pair.Pair.{Pair}
-use Rattle.hn_assign.specs.Advertised.{advertised_cmp}
-use Rattle.hn_assign.specs.Pair.{pair_cmp}
 use Rattle.hn_base.proofs.Prefixes.{exact_prefix}
 
 pub advertised_total : IsTotalOrder advertised_cmp

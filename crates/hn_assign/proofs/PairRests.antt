@@ -1,13 +1,9 @@
 -- A pair at rest, by what it is judged by.
-use Rattle.std.proofs.Common.{◌≡◌, ◌↔◌, ℕ, Bool, true, false, not, IsTrue, IsSome, is_some, Option, None, Some, refl, sym, ap, subst, inl, inr}
+use Rattle.hn_base.proofs.Names.{◌≡◌, ◌↔◌, ℕ, Bool, true, false, not, IsTrue, IsSome, is_some, Option, None, Some, refl, sym, ap, subst, inl, inr, same_Some}
+use Rattle.hn_assign.proofs.Names.{Advertised, Assigned, IsAhead, RestsWith, PlainScene, IsBestFor, HasNothingToDo}
 use Rattle.std.specs.Bool.{MatchBool}
-use Rattle.std.proofs.lemmas.Option.{same_Some}
-use Rattle.hn_assign.specs.declared.assigned.Advertised.{Advertised}
-use Rattle.hn_assign.specs.declared.assigned.Assigned.{Assigned}
-use Rattle.hn_assign.specs.Lines.{IsAhead}
-use Rattle.hn_assign.specs.Rest.{StaysAlone, StaysAs, StaysBeside, RestsWith}
-use Rattle.hn_assign.specs.Scene.{PlainScene, IsBestFor}
-use Rattle.hn_assign.specs.Unassigned.{HasFree, HasNothingToDo}
+use Rattle.hn_assign.specs.Rest.{StaysAlone, StaysAs, StaysBeside}
+use Rattle.hn_assign.specs.Unassigned.{HasFree}
 use Rattle.hn_assign.proofs.SameAdvertised.{best_one}
 
 -- ---- without an assignment

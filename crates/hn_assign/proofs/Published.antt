@@ -1,14 +1,7 @@
 -- Where what a pair publishes stays, the same prefixes are advertised.
-use Rattle.std.proofs.Common.{◌≡◌, ◌∙◌, ℕ, List, Contains, Option, None, Some, Bool, true, false, not, refl, sym, ap, subst, inl, inr, ⊎_elim}
-use Rattle.std.specs.Option.{option_map}
-use Rattle.hn_base.specs.Ascending.{HasAt}
-use Rattle.hn_base.specs.Prefix.{PlainPrefix}
-use Rattle.hn_assign.specs.declared.assigned.Advertised.{Advertised}
-use Rattle.hn_assign.specs.declared.assigned.Assigned.{Assigned}
-use Rattle.hn_assign.specs.declared.pair.Pair.{Pair}
-use Rattle.hn_assign.specs.Advertised.{key_of}
-use Rattle.hn_assign.specs.Gathered.{IsOwn, AdvertiseSame, AreAdvertised, own_advertised, published_of_pair}
-use Rattle.hn_assign.specs.Pair.{IsAscending, Updates, assigned_pair}
+use Rattle.hn_base.proofs.Names.{◌≡◌, ◌∙◌, ℕ, List, Contains, Option, None, Some, Bool, true, false, not, refl, sym, ap, subst, inl, inr, ⊎_elim, option_map, HasAt, PlainPrefix}
+use Rattle.hn_assign.proofs.Names.{Advertised, Assigned, Pair, key_of, IsOwn, AreAdvertised, own_advertised, IsAscending, Updates, assigned_pair}
+use Rattle.hn_assign.specs.Gathered.{AdvertiseSame, published_of_pair}
 use Rattle.hn_assign.proofs.AtPair.{pair_cases, is_had, had_is}
 
 -- a priority and a prefix that are published are those of the assignment

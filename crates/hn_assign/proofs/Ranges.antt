@@ -1,11 +1,8 @@
 -- Advertised prefixes in order of their bits: those that begin inside a prefix follow one another.
-use Rattle.std.proofs.Common.{◌≡◌, ◌↔◌, ◌∙◌, ℕ, ◌+◌, ◌-◌, ◌<◌, ◌≤◌, true, false, nat_lt, ltb-true, List, length, get_or, take, drop, Contains, sym, ap, subst, ⊎_elim, arith, length-drop}
-use Rattle.std.specs.List.Sorted.{IsPartitionPoint, IsNonDecreasingBy}
-use Rattle.std.proofs.lemmas.Bool.{cases_lt}
-use Rattle.std.proofs.lemmas.List.{get_or-take, get_or-drop, length-take}
-use Rattle.hn_base.specs.Prefix.{PlainPrefix, IsInside}
-use Rattle.hn_assign.specs.declared.assigned.Advertised.{Advertised}
-use Rattle.hn_assign.specs.Indexed.{IsFrontUpTo}
+use Rattle.hn_base.proofs.Names.{◌≡◌, ◌↔◌, ◌∙◌, ℕ, ◌+◌, ◌-◌, ◌<◌, ◌≤◌, true, false, nat_lt, List, length, get_or, take, drop, Contains, sym, ap, subst, ⊎_elim, arith, IsPartitionPoint}
+use Rattle.hn_base.proofs.Names.{IsNonDecreasingBy, cases_lt, get_or-take, get_or-drop, length-take, PlainPrefix, IsInside}
+use Rattle.hn_assign.proofs.Names.{length-drop, Advertised, IsFrontUpTo}
+use Rattle.std.proofs.Common.{ltb-true}
 
 -- the first addresses before the place are below an address, and those from it on are not
 abbrev pub IsBelow : List Advertised → ℕ → ℕ → Type 0

@@ -1,28 +1,10 @@
 -- Where each pair is at rest, the subroutine has a run, with each backoff due.
-use Rattle.std.proofs.Common.{◌≡◌, ◌∙◌, ℕ, List, [], ◌∷◌, Contains, Option, None, Some, refl, sym, ap, subst, inl, inr, ⊎_elim}
-use Rattle.std.specs.Ordering.{on}
+use Rattle.hn_base.proofs.Names.{◌≡◌, ◌∙◌, ℕ, List, [], ◌∷◌, Contains, Option, None, Some, refl, sym, ap, subst, inl, inr, ⊎_elim, on, Less, recursion_from_All, sorted_tail, HasAt}
+use Rattle.hn_assign.proofs.Names.{nothing_in, Contains-head, Contains-tail, Contains-cases, PlainView, Advertised, Assigned, Wish, Backoff, Ran, Pair, Slot, AreAssignmentsUnchanged, AreDue}
+use Rattle.hn_assign.proofs.Names.{AreAtRest, IsDueRun, AreAdvertised, IsPairTurn, assigned_pair, backoff_pair, wish_pair, pair_cmp, IsAscending, IsWished, Updates, IsAtRest, scene_of, IsPairStep}
+use Rattle.hn_assign.proofs.Names.{AreSteps, with_marks}
 use Rattle.std.specs.List.Sorted.{IsStrictlySortedBy}
-use Rattle.std.specs.declared.cmp.Ordering.TheVariants.{Less}
-use Rattle.std.proofs.lemmas.List.Elements.{recursion_from_All}
-use Rattle.std.proofs.lemmas.Map.Keys.{sorted_tail}
-use Rattle.hn_base.proofs.AscendingLists.{nothing_in, below_head, Contains-head, Contains-tail, Contains-cases}
-use Rattle.hn_data.specs.View.{PlainView}
-use Rattle.hn_assign.specs.declared.assigned.Advertised.{Advertised}
-use Rattle.hn_assign.specs.declared.assigned.Assigned.{Assigned}
-use Rattle.hn_assign.specs.declared.assigned.Wish.{Wish}
-use Rattle.hn_assign.specs.declared.backoff.Backoff.{Backoff}
-use Rattle.hn_assign.specs.declared.held.Ran.{Ran}
-use Rattle.hn_assign.specs.declared.pair.Pair.{Pair}
-use Rattle.hn_assign.specs.declared.slot.Slot.{Slot}
-use Rattle.hn_assign.specs.Fixed.{AreAssignmentsUnchanged, AreDue, AreAtRest, IsDueRun}
-use Rattle.hn_assign.specs.Gathered.{AreAdvertised}
-use Rattle.hn_assign.specs.Lines.{IsPairTurn}
-use Rattle.hn_base.specs.Ascending.{HasAt}
-use Rattle.hn_assign.specs.Pair.{assigned_pair, backoff_pair, wish_pair, pair_cmp, IsAscending, IsWished, Updates}
-use Rattle.hn_assign.specs.Rest.{IsAtRest}
-use Rattle.hn_assign.specs.Scene.{scene_of}
-use Rattle.hn_assign.specs.Step.{IsPairStep}
-use Rattle.hn_assign.specs.Subroutine.{AreSteps, with_marks}
+use Rattle.hn_base.proofs.AscendingLists.{below_head}
 use Rattle.hn_assign.proofs.AtPair.{has_some}
 use Rattle.hn_assign.proofs.KeptFacts.{each_all}
 use Rattle.hn_assign.proofs.Rests.{marks_unchanged}

@@ -1,34 +1,13 @@
 -- Pairs at rest, and the subroutine.
-use Rattle.std.proofs.Common.{◌≡◌, ◌∙◌, ◌⊎◌, ℕ, ◌<◌, IsTrue, List, [], ◌∷◌, Contains, map, Option, None, Some, refl, sym, ap, subst, inl, inr, ⊎_elim, arith}
-use Rattle.std.specs.Option.{option_map}
-use Rattle.hn_base.proofs.AscendingLists.{Contains-map, Contains-from_map, Contains-head, Contains-tail}
-use Rattle.hn_data.specs.View.{PlainView}
-use Rattle.hn_base.specs.Prefix.{PlainPrefix}
-use Rattle.hn_assign.specs.declared.assigned.Advertised.{Advertised}
-use Rattle.hn_assign.specs.declared.assigned.Assigned.{Assigned}
-use Rattle.hn_assign.specs.declared.assigned.Wish.{Wish}
-use Rattle.hn_assign.specs.declared.backoff.Backoff.{Backoff}
-use Rattle.hn_assign.specs.declared.held.Held.{Held}
-use Rattle.hn_assign.specs.declared.held.Ran.{Ran}
-use Rattle.hn_assign.specs.declared.pair.Pair.{Pair}
-use Rattle.hn_assign.specs.declared.slot.Slot.{Slot}
-use Rattle.hn_base.specs.Key.{IsAbove}
-use Rattle.hn_assign.specs.Advertised.{key_of}
-use Rattle.hn_assign.specs.Best.{HasNoFree}
-use Rattle.hn_assign.specs.Fixed.{unmarked, AreAssignmentsUnchanged, AreAtRest}
-use Rattle.hn_assign.specs.Gathered.{AreAdvertised}
-use Rattle.hn_assign.specs.Lines.{IfValid, IsAhead, IsLine}
-use Rattle.hn_assign.specs.Marks.{marked_applied}
-use Rattle.hn_assign.specs.Pair.{assigned_pair, wish_pair, IsAscending, IsWished, Updates, KeepsWished}
-use Rattle.hn_assign.specs.Rest.{IsIdle, IsAheadOfBest, IsAtRest}
-use Rattle.hn_assign.specs.Scene.{PlainScene, IsBestFor, IsValidFor, IsFreeFor, scene_of}
-use Rattle.hn_assign.specs.Step.{IsPairStep}
-use Rattle.hn_assign.specs.Subroutine.{AreSteps, IsSubroutine}
+use Rattle.hn_base.proofs.Names.{◌≡◌, ◌∙◌, ◌⊎◌, ℕ, ◌<◌, IsTrue, List, [], ◌∷◌, Contains, map, Option, None, Some, refl, sym, ap, subst, inl, inr, ⊎_elim, arith, option_map, PlainPrefix, IsAbove}
+use Rattle.hn_base.proofs.Names.{HaveSame, HasAt, same_Some}
+use Rattle.hn_assign.proofs.Names.{Contains-map, Contains-from_map, Contains-head, Contains-tail, PlainView, Advertised, Assigned, Wish, Backoff, Held, Ran, Pair, Slot, key_of, HasNoFree, unmarked}
+use Rattle.hn_assign.proofs.Names.{AreAssignmentsUnchanged, AreAtRest, AreAdvertised, IfValid, IsAhead, IsLine, marked_applied, assigned_pair, wish_pair, IsAscending, IsWished, Updates, KeepsWished}
+use Rattle.hn_assign.proofs.Names.{IsAtRest, PlainScene, IsBestFor, IsValidFor, IsFreeFor, scene_of, IsPairStep, AreSteps, IsSubroutine}
+use Rattle.hn_assign.specs.Rest.{IsIdle, IsAheadOfBest}
 use Rattle.hn_assign.proofs.AtPair.{is_had, same_list, updates_none}
 use Rattle.hn_assign.proofs.Marking.{marked_is}
-use Rattle.hn_base.specs.Ascending.{HaveSame, HasAt}
 use Rattle.hn_assign.proofs.SameAdvertised.{same_advertised, best_in, best_one, valid_in, none_in}
-use Rattle.std.proofs.lemmas.Option.{same_Some}
 
 -- ---- one turn
 

@@ -1,21 +1,11 @@
 -- Lists of the same advertised prefixes give the same best, valid and free prefixes.
-use Rattle.std.proofs.Common.{◌≡◌, ◌∙◌, ℕ, ◌<◌, List, Option, None, Some, Ordering, refl, sym, ap, subst, ⊎_elim, arith}
-use Rattle.std.specs.declared.cmp.Ordering.TheVariants.{Less, Equal, Greater}
-use Rattle.std.specs.Ordering.{ordering_reverse}
-use Rattle.std.proofs.lemmas.Bool.{cases_lt}
-use Rattle.std.proofs.lemmas.List.Elements.{All-contains}
-use Rattle.hn_data.specs.View.{PlainView}
-use Rattle.hn_base.specs.Prefix.{PlainPrefix, Overlaps}
-use Rattle.hn_prefix.specs.Free.{IsFree, IsTakenPrefix, IsFirstFree, sub_prefix_after}
-use Rattle.hn_base.proofs.AscendingLists.{Contains-map, Contains-from_map}
-use Rattle.hn_assign.specs.declared.assigned.Advertised.{Advertised}
-use Rattle.hn_assign.specs.declared.assigned.Assigned.{Assigned}
-use Rattle.hn_assign.specs.Advertised.{LinkEndpoints, advertised_cmp}
-use Rattle.hn_assign.specs.Best.{IsCandidatePrefix, IsBest, IsBestIfAny, IsValid, IsFreeIn, HasNoFree}
-use Rattle.hn_assign.specs.Gathered.{AreAdvertised}
+use Rattle.hn_base.proofs.Names.{◌≡◌, ◌∙◌, ℕ, ◌<◌, List, Option, None, Some, Ordering, refl, sym, ap, subst, ⊎_elim, arith, Less, Equal, Greater, ordering_reverse, cases_lt, All-contains, PlainPrefix}
+use Rattle.hn_base.proofs.Names.{Overlaps, HaveSame}
+use Rattle.hn_assign.proofs.Names.{PlainView, IsFree, IsTakenPrefix, IsFirstFree, Contains-map, Contains-from_map, Advertised, Assigned, LinkEndpoints, advertised_cmp, IsCandidatePrefix, IsBest}
+use Rattle.hn_assign.proofs.Names.{IsBestIfAny, IsValid, IsFreeIn, HasNoFree, AreAdvertised}
+use Rattle.hn_prefix.specs.Free.{sub_prefix_after}
 use Rattle.hn_assign.proofs.FreePrefixes.{prefixes}
 use Rattle.hn_assign.proofs.Orders.{advertised_total, advertised_exact}
-use Rattle.hn_base.specs.Ascending.{HaveSame}
 
 pub same_back : {A : Type 0} (xs ys : List A) → HaveSame xs ys → HaveSame ys xs
 same_back xs ys same x = let both = same x in (both.1, both.0)

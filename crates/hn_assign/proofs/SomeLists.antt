@@ -1,13 +1,6 @@
 -- Lists that cannot be missing: what is kept of wished pairs, and what there is where a pair gets something else.
-use Rattle.std.proofs.Common.{◌≡◌, ◌↔◌, ◌⊎◌, List, Contains, Option, IfSome, Ordering, refl, inl, inr}
-use Rattle.std.specs.Ordering.{on}
-use Rattle.std.specs.declared.cmp.Ordering.TheVariants.{Less, Equal, Greater}
-use Rattle.std.proofs.lemmas.List.Elements.{recursion_from_All}
-use Rattle.hn_base.specs.Exists.{Some! }
-use Rattle.hn_base.proofs.SomeExists.{IsPart, some_then, some_part}
-use Rattle.hn_assign.specs.declared.assigned.Wish.{Wish}
-use Rattle.hn_assign.specs.declared.pair.Pair.{Pair}
-use Rattle.hn_assign.specs.Pair.{pair_cmp, IsAscending, IsWished, Updates, KeepsWished}
+use Rattle.hn_base.proofs.Names.{◌≡◌, ◌↔◌, ◌⊎◌, List, Contains, Option, IfSome, Ordering, refl, inl, inr, on, Less, Equal, Greater, recursion_from_All, Some! }
+use Rattle.hn_assign.proofs.Names.{IsPart, some_then, some_part, Wish, Pair, pair_cmp, IsAscending, IsWished, Updates, KeepsWished}
 use Rattle.hn_assign.proofs.AroundPair.{Sides, joined, ascending_joined, has_joined, others, greater_is_above}
 use Rattle.hn_assign.proofs.KeptFacts.{each_all}
 use Rattle.hn_assign.proofs.Orders.{pair_exact}

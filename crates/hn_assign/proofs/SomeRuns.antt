@@ -1,31 +1,10 @@
 -- A run of the subroutine cannot be missing, over whatever stream of words.
-use Rattle.std.proofs.Common.{◌≡◌, ℕ, List, [], ◌∷◌, ◌++◌, length, map, Contains, Option, None, Some, IfSome, refl, sym, subst, inl, inr, arith}
-use Rattle.std.specs.Prelude.{All}
-use Rattle.std.specs.Ordering.{on}
-use Rattle.std.proofs.lemmas.List.{append-nil}
-use Rattle.hn_base.specs.Ascending.{HasAt}
-use Rattle.hn_base.specs.Prefix.{IsPrefix}
-use Rattle.hn_base.specs.Words.{Begins}
-use Rattle.hn_base.proofs.AscendingLists.{Contains-head, Contains-tail, Contains-map, Contains-from_map, sorted_parts}
-use Rattle.hn_data.specs.View.{PlainView}
-use Rattle.hn_base.specs.Exists.{Some! }
-use Rattle.hn_prefix.specs.Laws.{FreeOrFull, InsideAreSubPrefixes}
+use Rattle.hn_base.proofs.Names.{◌≡◌, ℕ, List, [], ◌∷◌, ◌++◌, length, map, Contains, Option, None, Some, IfSome, refl, sym, subst, inl, inr, arith, All, on, append-nil, HasAt, IsPrefix, Begins, Some! }
+use Rattle.hn_assign.proofs.Names.{Contains-head, Contains-tail, Contains-map, Contains-from_map, sorted_parts, PlainView, FreeOrFull, InsideAreSubPrefixes, IsPart, some_is, some_then, some_part}
+use Rattle.hn_assign.proofs.Names.{Assigned, Wish, Backoff, Held, Ran, Pair, Slot, IsFitting, AreDue, IsDueRun, AdvertisedExists, assigned_pair, backoff_pair, wish_pair, pair_cmp, IsAscending}
+use Rattle.hn_assign.proofs.Names.{scene_of, IsPairStep, AreSteps, IsSubroutine, with_marks}
 use Rattle.hn_base.proofs.FirstWords.{begins_next}
-use Rattle.hn_base.proofs.SomeExists.{IsPart, some_is, some_then, some_part}
-use Rattle.hn_assign.specs.declared.assigned.Assigned.{Assigned}
-use Rattle.hn_assign.specs.declared.assigned.Wish.{Wish}
-use Rattle.hn_assign.specs.declared.backoff.Backoff.{Backoff}
-use Rattle.hn_assign.specs.declared.held.Held.{Held}
-use Rattle.hn_assign.specs.declared.held.Ran.{Ran}
-use Rattle.hn_assign.specs.declared.pair.Pair.{Pair}
-use Rattle.hn_assign.specs.declared.slot.Slot.{Slot}
-use Rattle.hn_assign.specs.Facts.{IsFitting}
-use Rattle.hn_assign.specs.Fixed.{AreDue, IsDueRun}
-use Rattle.hn_assign.specs.Laws.{AdvertisedExists, SubroutineHasAResult, SubroutineHasADueRun}
-use Rattle.hn_assign.specs.Pair.{assigned_pair, backoff_pair, wish_pair, pair_cmp, IsAscending}
-use Rattle.hn_assign.specs.Scene.{scene_of}
-use Rattle.hn_assign.specs.Step.{IsPairStep}
-use Rattle.hn_assign.specs.Subroutine.{AreSteps, IsSubroutine, with_marks}
+use Rattle.hn_assign.specs.Laws.{SubroutineHasAResult, SubroutineHasADueRun}
 use Rattle.hn_assign.proofs.AtPair.{has_some}
 use Rattle.hn_assign.proofs.KeptFacts.{all_each}
 use Rattle.hn_assign.proofs.OneResult.{IsInOrder, step_in_order}

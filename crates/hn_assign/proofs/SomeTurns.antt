@@ -1,24 +1,12 @@
 -- A turn of a pair cannot be missing, whatever the next word is.
-use Rattle.std.proofs.Common.{◌≡◌, ◌⊎◌, ℕ, ◌≤◌, ◌%◌, IsTrue, cond, List, [], ◌∷◌, ◌++◌, Option, None, Some, IfSome, refl, sym, subst, append_assoc, inl, inr, arith}
-use Rattle.std.specs.Ordering.{is_lt}
-use Rattle.std.proofs.lemmas.Bool.{cases_lt}
-use Rattle.std.proofs.lemmas.List.{append-nil}
-use Rattle.hn_base.specs.Prefix.{PlainPrefix, IsPrefix, IsWithin}
-use Rattle.hn_base.proofs.AscendingLists.{nothing_in}
-use Rattle.hn_base.specs.Exists.{Some! }
-use Rattle.hn_prefix.specs.Laws.{FreeOrFull, InsideAreSubPrefixes, IsFirstFreeIfAny}
-use Rattle.hn_base.proofs.SomeExists.{some_is, some_then, some_by}
-use Rattle.hn_assign.specs.declared.assigned.Advertised.{Advertised}
-use Rattle.hn_assign.specs.declared.assigned.Assigned.{Assigned}
-use Rattle.hn_assign.specs.declared.backoff.Backoff.{Backoff}
-use Rattle.hn_assign.specs.declared.pair.Pair.{Pair}
-use Rattle.hn_assign.specs.declared.slot.Slot.{Slot}
-use Rattle.hn_assign.specs.Advertised.{LinkEndpoints, advertised_cmp}
-use Rattle.hn_assign.specs.Best.{IsBestIfAny}
-use Rattle.hn_assign.specs.Lines.{following, IfValid, IsAhead, IsLine, IsPairTurn}
-use Rattle.hn_assign.specs.Pair.{assigned_pair, backoff_pair, wish_pair}
-use Rattle.hn_assign.specs.Scene.{PlainScene, IsValidFor, IsFreeFor, HasNoFreeFor, IsFirstFreeFor, new_assigned}
-use Rattle.hn_assign.specs.Unassigned.{HasNothingToDo, backoff_after}
+use Rattle.hn_base.proofs.Names.{◌≡◌, ◌⊎◌, ℕ, ◌≤◌, ◌%◌, IsTrue, cond, List, [], ◌∷◌, ◌++◌, Option, None, Some, IfSome, refl, sym, subst, append_assoc, inl, inr, arith, is_lt, cases_lt, append-nil}
+use Rattle.hn_base.proofs.Names.{PlainPrefix, IsPrefix, IsWithin, Some! }
+use Rattle.hn_assign.proofs.Names.{nothing_in, FreeOrFull, InsideAreSubPrefixes, some_is, some_then, Advertised, Assigned, Backoff, Pair, Slot, LinkEndpoints, advertised_cmp, IsBestIfAny, IfValid}
+use Rattle.hn_assign.proofs.Names.{IsAhead, IsLine, IsPairTurn, assigned_pair, backoff_pair, wish_pair, PlainScene, IsValidFor, IsFreeFor, HasNoFreeFor, IsFirstFreeFor, new_assigned, HasNothingToDo}
+use Rattle.hn_assign.proofs.Names.{backoff_after}
+use Rattle.hn_prefix.specs.Laws.{IsFirstFreeIfAny}
+use Rattle.hn_base.proofs.SomeExists.{some_by}
+use Rattle.hn_assign.specs.Lines.{following}
 use Rattle.hn_assign.proofs.Bests.{IsEligible, best_passed, best_candidate}
 use Rattle.hn_assign.proofs.FreePrefixes.{prefixes, found_free, none_free, none_in_longer}
 use Rattle.hn_assign.proofs.OneResult.{Turned}

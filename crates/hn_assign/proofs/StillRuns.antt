@@ -1,30 +1,9 @@
 -- A run that leaves what is held as it is and takes no word is one at a later moment.
-use Rattle.std.proofs.Common.{◌≡◌, ◌∙◌, ◌⊎◌, ℕ, ◌+◌, ◌-◌, ◌<◌, ◌≤◌, Bool, true, false, cond, List, [], ◌∷◌, ◌++◌, Contains, map, Option, None, Some, refl, sym, ap, subst, inl, inr, arith}
-use Rattle.std.specs.Option.{option_map}
-use Rattle.std.specs.Ordering.{on}
-use Rattle.std.proofs.lemmas.Bool.{cases_lt, le-leb, lt-leb}
-use Rattle.std.proofs.lemmas.Map.Keys.{sorted_tail}
-use Rattle.std.proofs.lemmas.Option.{same_Some}
-use Rattle.hn_base.proofs.AscendingLists.{Contains-map, Contains-from_map, Contains-head, Contains-tail}
-use Rattle.hn_base.specs.Ascending.{HasAt}
-use Rattle.hn_data.specs.Later.{IsLater}
-use Rattle.hn_data.specs.View.{PlainView}
-use Rattle.hn_assign.specs.declared.assigned.Advertised.{Advertised}
-use Rattle.hn_assign.specs.declared.assigned.Assigned.{Assigned}
-use Rattle.hn_assign.specs.declared.assigned.Wish.{Wish}
-use Rattle.hn_assign.specs.declared.backoff.Backoff.{Backoff}
-use Rattle.hn_assign.specs.declared.held.Held.{Held}
-use Rattle.hn_assign.specs.declared.held.Ran.{Ran}
-use Rattle.hn_assign.specs.declared.pair.Pair.{Pair}
-use Rattle.hn_assign.specs.declared.slot.Slot.{Slot}
-use Rattle.hn_assign.specs.Due.{IsHeldDue}
+use Rattle.hn_base.proofs.Names.{◌≡◌, ◌∙◌, ◌⊎◌, ℕ, ◌+◌, ◌-◌, ◌<◌, ◌≤◌, Bool, true, false, cond, List, [], ◌∷◌, ◌++◌, Contains, map, Option, None, Some, refl, sym, ap, subst, inl, inr, arith}
+use Rattle.hn_base.proofs.Names.{option_map, on, cases_lt, le-leb, lt-leb, sorted_tail, same_Some, HasAt}
+use Rattle.hn_assign.proofs.Names.{Contains-map, Contains-from_map, Contains-head, Contains-tail, IsLater, PlainView, Advertised, Assigned, Wish, Backoff, Held, Ran, Pair, Slot, IsHeldDue, IsAhead}
+use Rattle.hn_assign.proofs.Names.{IsLine, IsPairTurn, marked_applied, assigned_pair, backoff_pair, wish_pair, pair_cmp, IsAscending, KeepsWished, PlainScene, IsPairStep, AreSteps}
 use Rattle.hn_assign.specs.Laws.{StillRunStays}
-use Rattle.hn_assign.specs.Lines.{IsAhead, IsLine, IsPairTurn}
-use Rattle.hn_assign.specs.Marks.{marked_applied}
-use Rattle.hn_assign.specs.Pair.{assigned_pair, backoff_pair, wish_pair, pair_cmp, IsAscending, KeepsWished}
-use Rattle.hn_assign.specs.Scene.{PlainScene}
-use Rattle.hn_assign.specs.Step.{IsPairStep}
-use Rattle.hn_assign.specs.Subroutine.{AreSteps}
 use Rattle.hn_assign.proofs.AtPair.{has_one, had_still}
 use Rattle.hn_assign.proofs.LaterMoments.{advertised_later}
 use Rattle.hn_assign.proofs.LeftInOrder.{assigned_ascend}

@@ -1,26 +1,8 @@
 -- Where the subroutine changes no assignment, each pair is at rest.
-use Rattle.std.proofs.Common.{◌≡◌, ◌∙◌, ℕ, List, [], ◌∷◌, Contains, map, Option, None, Some, refl, sym, ap, subst, ⊎_elim, arith}
-use Rattle.std.specs.Option.{option_map}
-use Rattle.std.specs.Ordering.{on}
-use Rattle.std.specs.declared.cmp.Ordering.TheVariants.{Less}
-use Rattle.std.proofs.lemmas.List.Elements.{All-contains, All-from_recursion}
-use Rattle.std.proofs.lemmas.Map.Keys.{sorted_head, sorted_tail}
-use Rattle.hn_base.proofs.AscendingLists.{not_below_itself, Contains-head, Contains-tail, Contains-cases}
-use Rattle.hn_data.specs.View.{PlainView}
-use Rattle.hn_assign.specs.declared.assigned.Advertised.{Advertised}
-use Rattle.hn_assign.specs.declared.assigned.Assigned.{Assigned}
-use Rattle.hn_assign.specs.declared.assigned.Wish.{Wish}
-use Rattle.hn_assign.specs.declared.backoff.Backoff.{Backoff}
-use Rattle.hn_assign.specs.declared.held.Held.{Held}
-use Rattle.hn_assign.specs.declared.held.Ran.{Ran}
-use Rattle.hn_assign.specs.declared.pair.Pair.{Pair}
-use Rattle.hn_assign.specs.Fixed.{unmarked, AreAssignmentsUnchanged, AreDue, AreAtRest}
-use Rattle.hn_assign.specs.Gathered.{AreAdvertised}
-use Rattle.hn_base.specs.Ascending.{HasAt}
-use Rattle.hn_assign.specs.Pair.{assigned_pair, backoff_pair, wish_pair, pair_cmp, IsAscending, IsWished, Updates}
-use Rattle.hn_assign.specs.Rest.{IsAtRest}
-use Rattle.hn_assign.specs.Step.{IsPairStep}
-use Rattle.hn_assign.specs.Subroutine.{AreSteps, IsSubroutine}
+use Rattle.hn_base.proofs.Names.{◌≡◌, ◌∙◌, ℕ, List, [], ◌∷◌, Contains, map, Option, None, Some, refl, sym, ap, subst, ⊎_elim, arith, option_map, on, Less, All-contains, All-from_recursion}
+use Rattle.hn_base.proofs.Names.{sorted_head, sorted_tail, HasAt}
+use Rattle.hn_assign.proofs.Names.{not_below_itself, Contains-head, Contains-tail, Contains-cases, PlainView, Advertised, Assigned, Wish, Backoff, Held, Ran, Pair, unmarked, AreAssignmentsUnchanged}
+use Rattle.hn_assign.proofs.Names.{AreDue, AreAtRest, AreAdvertised, assigned_pair, backoff_pair, wish_pair, pair_cmp, IsAscending, IsWished, Updates, IsAtRest, IsPairStep, AreSteps, IsSubroutine}
 use Rattle.hn_assign.proofs.Orders.{pair_total}
 use Rattle.hn_assign.proofs.AtPair.{has_one, has_still, updates_none}
 use Rattle.hn_assign.proofs.Rests.{begun_same, marks_unchanged, alike, line_rests, rest_in}

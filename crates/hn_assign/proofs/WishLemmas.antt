@@ -1,9 +1,7 @@
 -- Wishes, and one more.
-use Rattle.std.proofs.Common.{◌≡◌, ◌↔◌, ◌⊎◌, List, [], Contains, Option, None, Some, subst, inl, inr, ⊎_elim, arith}
-use Rattle.hn_assign.specs.declared.assigned.Wish.{Wish}
-use Rattle.hn_assign.specs.Facts.{IsFitting, AreWishes}
-use Rattle.hn_base.specs.Ascending.{HasAt}
-use Rattle.hn_assign.specs.Pair.{wish_pair, Updates}
+use Rattle.hn_base.proofs.Names.{◌≡◌, ◌↔◌, ◌⊎◌, List, [], Contains, Option, None, Some, subst, inl, inr, ⊎_elim, arith, HasAt}
+use Rattle.hn_assign.proofs.Names.{Wish, IsFitting, wish_pair, Updates}
+use Rattle.hn_assign.specs.Facts.{AreWishes}
 use Rattle.hn_assign.proofs.AtPair.{pair_cases, is_had}
 use Rattle.hn_assign.proofs.AroundPair.{ascending_nil}
 use Rattle.hn_assign.proofs.KeptFacts.{each_all, all_each}

@@ -1,21 +1,11 @@
 -- An event that a world accepts happens at a router that runs.
-use Rattle.std.proofs.Common.{◌≡◌, ◌∙◌, ◌-◌, ◌≤◌, ℕ, zero, suc, Bool, true, false, cond, not, nat_lt, List, [], ◌∷◌, length, find, position, Option, Some, None, slice_get, refl, sym, ap, subst}
-use Rattle.std.specs.Prelude.{◌==◌, ◌||◌, ◌&&◌, nat_le, is_none, IsTrue}
-use Rattle.std.specs.List.{position_or_len}
-use Rattle.std.specs.Option.{option_and_then}
-use Rattle.std.proofs.lemmas.Bool.{ltb-false}
-use Rattle.std.proofs.lemmas.List.Folds.{find_at}
-use Rattle.std.proofs.lemmas.Option.{same_Some}
-use Rattle.hn_base.specs.Name.{name_text}
-use Rattle.hn_base.specs.declared.name.Name.{Name}
-use Rattle.hn_world.specs.declared.copies.MailCopy.{MailCopy}
-use Rattle.hn_world.specs.declared.event.WEvent.{WEvent}
+use Rattle.hn_base.proofs.Names.{◌≡◌, ◌∙◌, ◌-◌, ◌≤◌, ℕ, zero, suc, Bool, true, false, cond, not, nat_lt, List, [], ◌∷◌, length, position, Option, Some, None, slice_get, refl, sym, ap, subst, ◌==◌}
+use Rattle.hn_base.proofs.Names.{◌||◌, ◌&&◌, nat_le, is_none, position_or_len, option_and_then, ltb-false, find_at, same_Some, name_text}
+use Rattle.hn_audit.proofs.Names.{find, IsTrue, Name, MailCopy, WEvent, Member, Parts, is_named, first_code, refusal}
 use Rattle.hn_world.specs.declared.event.WEvent.TheVariants as event
-use Rattle.hn_world.specs.declared.member.Member.{Member}
-use Rattle.hn_world.specs.declared.parts.Parts.{Parts}
-use Rattle.hn_world.specs.Names.{is_named, router_place}
-use Rattle.hn_world.specs.Refusal.{acting, copy_at, first_code, goes_back, is_full_of_mail, is_stopped, joins_twice, lacks_a_copy}
-use Rattle.hn_world.specs.Refusal.{lacks_room, lacks_the_endpoint, may_answer, may_not_address, names_nothing, refusal, so_of, takes_a_name}
+use Rattle.hn_world.specs.Names.{router_place}
+use Rattle.hn_world.specs.Refusal.{acting, copy_at, goes_back, is_full_of_mail, is_stopped, joins_twice, lacks_a_copy}
+use Rattle.hn_world.specs.Refusal.{lacks_room, lacks_the_endpoint, may_answer, may_not_address, names_nothing, so_of, takes_a_name}
 
 position_is : {A : Type 0} (p : A → Bool) (xs : List A) (i : ℕ) → position p xs ≡ Some i → position_or_len p xs ≡ i
 position_is p xs i found = by_test (nat_lt (position_or_len p xs) (length xs)) found

@@ -1,17 +1,7 @@
 -- The routers of a settled set are sound alike.
-use Rattle.std.proofs.Common.{◌≡◌, ◌↔◌, List, Contains, inl, inr, sym, subst}
-use Rattle.hn_base.specs.declared.ids.NodeId.{NodeId}
-use Rattle.hn_base.specs.declared.ids.EpId.{EpId}
-use Rattle.hn_base.specs.Prefix.{PlainPrefix}
-use Rattle.hn_deleg.specs.declared.delegated.Delegated.{Delegated}
-use Rattle.hn_deleg.specs.Used.{prefixes_of}
-use Rattle.hn_deleg.specs.Laws.{UsableIsUnique}
-use Rattle.hn_rules.specs.Seen.{seen_by}
-use Rattle.hn_world.specs.declared.member.Member.{Member}
-use Rattle.hn_world.specs.declared.parts.Parts.{Parts}
-use Rattle.hn_audit.specs.Reached.{IsReached}
-use Rattle.hn_audit.specs.Settled.{UseSame}
-use Rattle.hn_audit.specs.Sound.{Uses, Link, Joint, IsThere, IsServedLink, IsWithout, IsHeldOn, IsSound}
+use Rattle.hn_base.proofs.Names.{◌≡◌, ◌↔◌, List, Contains, inl, inr, sym, subst, PlainPrefix}
+use Rattle.hn_audit.proofs.Names.{NodeId, EpId, Delegated, prefixes_of, UsableIsUnique, seen_by, Member, Parts, IsReached, UseSame, Uses, Link, Joint, IsThere, IsServedLink, IsWithout, IsHeldOn}
+use Rattle.hn_audit.proofs.Names.{IsSound}
 use Rattle.hn_audit.proofs.BridgeSets.{IsKnown, itself, reach_is}
 
 -- where one router uses what the other uses, it uses each prefix that the other uses

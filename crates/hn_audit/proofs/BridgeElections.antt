@@ -1,38 +1,16 @@
 -- On one link the routers of a settled set elect the same.
-use Rattle.std.proofs.Common.{◌≡◌, ◌∙◌, ◌<◌, ◌==◌, ◌&&◌, nat_lt, ℕ, Bool, List, Option, Some, None, Contains, filter, inl, inr, refl, sym, ap, subst, rules}
-use Rattle.std.specs.Cmp.{IsTotalOrder}
-use Rattle.std.specs.Cmp.Rules.{comparing}
-use Rattle.std.specs.List.{list_any}
+use Rattle.hn_base.proofs.Names.{◌≡◌, ◌∙◌, ◌<◌, nat_lt, ℕ, Bool, List, Option, Some, None, Contains, filter, inl, inr, refl, sym, ap, subst, rules, IsTotalOrder, comparing, list_any, on, nat_cmp}
+use Rattle.hn_base.proofs.Names.{Less, and_from, and_parts, eqb-true, eq-eqb, lt-ltb, ltb-true, on_total, then_total, nat_cmp_total, same_Some, IsExact, PlainCaps, plain_caps}
+use Rattle.hn_audit.proofs.Names.{◌==◌, ◌&&◌, same_node, NodeId, EpId, HasItems, ItemsAreUnique, version_of, Delegated, IsCommonLink, IsOnCommonLink, seen_by, IsOnLinkOf, CommonLinkIsExact, Member}
+use Rattle.hn_audit.proofs.Names.{Parts, IsReached, Link, IsThere, in_filter, from_filter, any_of, any_from}
 use Rattle.std.specs.Option.{MatchOption}
-use Rattle.std.specs.Ordering.{on, nat_cmp}
 use Rattle.std.specs.declared.cmp.Ordering.{Ordering}
-use Rattle.std.specs.declared.cmp.Ordering.TheVariants.{Less}
-use Rattle.std.proofs.lemmas.Bool.{and_from, and_parts, eqb-true, eq-eqb, lt-ltb, ltb-true}
-use Rattle.std.proofs.lemmas.Cmp.{on_total, then_total, nat_cmp_total}
-use Rattle.std.proofs.lemmas.Option.{same_Some}
 use Rattle.hn_base.proofs.AscendingLists.{exact_nat, exact_then}
-use Rattle.hn_base.proofs.Keys.{same_node}
-use Rattle.hn_base.specs.Ascending.{IsExact}
-use Rattle.hn_base.specs.Caps.{PlainCaps, plain_caps}
-use Rattle.hn_base.specs.declared.ids.NodeId.{NodeId}
-use Rattle.hn_base.specs.declared.ids.EpId.{EpId}
 use Rattle.hn_base.specs.declared.letter.Letter.{Letter}
-use Rattle.hn_data.specs.Items.{HasItems}
-use Rattle.hn_data.specs.Laws.{ItemsAreUnique}
-use Rattle.hn_data.specs.Said.{version_of}
-use Rattle.hn_deleg.specs.declared.delegated.Delegated.{Delegated}
-use Rattle.hn_link.specs.CommonLink.{IsCommonLink, IsOnCommonLink, endpoint_cmp}
+use Rattle.hn_link.specs.CommonLink.{endpoint_cmp}
 use Rattle.hn_link.specs.Election.{IsServing, IsElectionCandidate, IsElected, HasNoCandidate, priority_of, rank_of, rank_cmp}
-use Rattle.hn_rules.specs.Seen.{seen_by}
 use Rattle.hn_sound.specs.Home.{common_link}
-use Rattle.hn_sound.specs.Members.{IsOnLinkOf}
-use Rattle.hn_sound.specs.Laws.{CommonLinkIsExact}
-use Rattle.hn_world.specs.declared.member.Member.{Member}
-use Rattle.hn_world.specs.declared.parts.Parts.{Parts}
-use Rattle.hn_audit.specs.Reached.{IsReached}
-use Rattle.hn_audit.specs.Sound.{Link, IsThere, ElectSame}
-use Rattle.hn_base.proofs.Elements.{in_filter, from_filter}
-use Rattle.hn_base.proofs.Elements.{any_of, any_from}
+use Rattle.hn_audit.specs.Sound.{ElectSame}
 use Rattle.hn_base.proofs.AscendingMade.{ascending_of}
 use Rattle.hn_audit.proofs.BridgeSets.{router_of, in_view, of_view}
 use Rattle.hn_audit.proofs.BridgeHomes.{home_of, set_of, in_set, of_set, end_on}

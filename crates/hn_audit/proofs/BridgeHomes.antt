@@ -1,33 +1,15 @@
 -- The home of a settled set: its posts on links, and its assignments.
-use Rattle.std.proofs.Common.{◌≡◌, ◌≢◌, ◌∙◌, ◌<◌, ◌^◌, ◌+◌, ◌*◌, ◌==◌, ℕ, Bool, List, [], ◌++◌, Option, Some, None, IsSome, Contains, IsTrue, filter, find, map, not, inl, inr, refl, sym, ap, subst}
-use Rattle.std.proofs.Common.{arith}
-use Rattle.std.specs.Option.{option_map, option_map_or}
-use Rattle.std.specs.List.{filter_map, flat_map}
-use Rattle.std.proofs.lemmas.Bool.{and_from, and_parts, eqb-true, eq-eqb}
-use Rattle.std.proofs.lemmas.List.Elements.{All-contains, Contains-append_left, Contains-append_right, Contains-append_cases}
-use Rattle.std.proofs.lemmas.Option.{same_Some}
-use Rattle.hn_base.proofs.AscendingLists.{Contains-head, Contains-one, Contains-map, Contains-from_map, nothing_in}
-use Rattle.hn_base.proofs.Keys.{same_node, same_id, id_is_found, found_is_id}
-use Rattle.hn_base.specs.declared.ids.NodeId.{NodeId}
-use Rattle.hn_base.specs.declared.ids.EpId.{EpId}
-use Rattle.hn_base.specs.Prefix.{PlainPrefix}
-use Rattle.hn_assign.specs.declared.assigned.Assigned.{Assigned}
-use Rattle.hn_deleg.specs.declared.delegated.Delegated.{Delegated}
-use Rattle.hn_deleg.specs.Used.{prefixes_of}
-use Rattle.hn_dncp.specs.declared.port.Port.{Port}
-use Rattle.hn_own.specs.Ports.{endpoints_of, is_attached}
-use Rattle.hn_own.specs.Posts.{length_at, posts_of, private_post, private_posts}
-use Rattle.hn_rules.specs.Router.{IsRouter}
-use Rattle.hn_sound.specs.Home.{Home, Endpoint, Held, EndpointHasAssignment}
-use Rattle.hn_world.specs.declared.member.Attachment.{Attachment}
-use Rattle.hn_world.specs.declared.member.Member.{Member}
-use Rattle.hn_world.specs.declared.parts.Parts.{Parts}
-use Rattle.hn_world.specs.Names.{is_of, link_of}
-use Rattle.hn_world.specs.Replay.{IsAttachedMember}
-use Rattle.hn_audit.specs.Reached.{IsReached, runs_as}
+use Rattle.hn_base.proofs.Names.{◌≡◌, ◌≢◌, ◌∙◌, ◌<◌, ◌^◌, ◌+◌, ◌*◌, ℕ, Bool, List, [], ◌++◌, Option, Some, None, IsSome, Contains, IsTrue, filter, map, not, inl, inr, refl, sym, ap, subst, arith}
+use Rattle.hn_base.proofs.Names.{option_map, option_map_or, filter_map, flat_map, and_from, and_parts, eqb-true, eq-eqb, All-contains, Contains-append_left, Contains-append_right}
+use Rattle.hn_base.proofs.Names.{Contains-append_cases, same_Some, PlainPrefix}
+use Rattle.hn_audit.proofs.Names.{◌==◌, find, Contains-head, Contains-one, Contains-map, Contains-from_map, nothing_in, same_node, same_id, NodeId, EpId, Assigned, Delegated, prefixes_of, Port}
+use Rattle.hn_audit.proofs.Names.{endpoints_of, is_attached, length_at, posts_of, private_posts, IsRouter, Endpoint, EndpointHasAssignment, Attachment, Member, Parts, is_of, link_of, IsAttachedMember}
+use Rattle.hn_audit.proofs.Names.{IsReached, runs_as, Link, Joint, Private, IsPostOn, in_filter, from_filter, in_filter_map, from_filter_map, found_passes, one_of_apart}
+use Rattle.hn_base.proofs.Keys.{id_is_found, found_is_id}
+use Rattle.hn_own.specs.Posts.{private_post}
+use Rattle.hn_sound.specs.Home.{Home, Held}
 use Rattle.hn_audit.specs.Sound as said
-use Rattle.hn_audit.specs.Sound.{Link, Joint, Private, IsPostOn}
-use Rattle.hn_base.proofs.Elements.{in_filter, from_filter, in_filter_map, from_filter_map, found_passes, passing_found, one_of_apart}
+use Rattle.hn_base.proofs.Elements.{passing_found}
 use Rattle.hn_audit.proofs.ElementsOfLists.{in_flat_map, from_flat_map}
 use Rattle.hn_audit.proofs.BridgeSets.{IsKnown, one_member}
 use Rattle.hn_audit.proofs.BridgeUsed.{is_unwanted}

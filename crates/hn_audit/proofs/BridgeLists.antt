@@ -1,9 +1,6 @@
 -- What lists have, element by element.
-use Rattle.std.proofs.Common.{◌≡◌, ◌∙◌, suc, zero, Bool, true, false, List, [], ◌∷◌, Contains, length, filter, refl, sym, arith}
-use Rattle.std.specs.List.{count_by}
-use Rattle.std.proofs.lemmas.List.Sums.{length-filter}
-use Rattle.hn_base.proofs.Elements.{in_filter, from_filter}
-use Rattle.hn_base.proofs.AscendingLists.{Contains-head, nothing_in}
+use Rattle.hn_base.proofs.Names.{◌≡◌, ◌∙◌, suc, zero, Bool, true, false, List, [], ◌∷◌, Contains, length, filter, refl, sym, arith, count_by, length-filter}
+use Rattle.hn_audit.proofs.Names.{in_filter, from_filter, Contains-head, nothing_in}
 
 -- ---- a list of one
 

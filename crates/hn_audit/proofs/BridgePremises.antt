@@ -1,36 +1,16 @@
 -- The home of a settled and quiet set meets all that is asked of a home.
-use Rattle.std.proofs.Common.{◌≡◌, ◌∙◌, ◌≤◌, ℕ, List, Some, Contains, sym, ap, subst, arith}
-use Rattle.std.specs.Cmp.{IsTotalOrder}
-use Rattle.std.proofs.lemmas.List.Elements.{All-contains}
-use Rattle.std.proofs.lemmas.Option.{slice_get_within, get_or_from_slice_get}
-use Rattle.hn_base.proofs.AscendingLists.{Contains-map}
-use Rattle.hn_base.specs.Ascending.{IsExact}
-use Rattle.hn_base.specs.declared.ids.EpId.{EpId}
-use Rattle.hn_base.specs.Prefix.{PlainPrefix, IsWithin}
-use Rattle.hn_assign.specs.declared.assigned.Assigned.{Assigned}
+use Rattle.hn_base.proofs.Names.{◌≡◌, ◌∙◌, ◌≤◌, ℕ, List, Some, Contains, sym, ap, subst, arith, IsTotalOrder, All-contains, slice_get_within, get_or_from_slice_get, IsExact, PlainPrefix, IsWithin}
+use Rattle.hn_audit.proofs.Names.{Contains-map, EpId, Assigned, Pair, IsWished, assigned_pair, pair_cmp, Delegated, AreUsable, prefixes_of, UsableIsUnique, UsableNeverOverlap, CommonLinkExists}
+use Rattle.hn_audit.proofs.Names.{AssignedIsPublished, OwnPeersAreOfEndpoints, PrivatePostIsAlone, seen_by, Endpoint, EndpointHasAssignment, Member, Parts, IsReached, AreSame, IsQuiet, Link, IsPostOn}
+use Rattle.hn_audit.proofs.Names.{one_of_ascending}
 use Rattle.hn_assign.specs.Facts.{IsInDelegated, HasOwnPriority}
-use Rattle.hn_assign.specs.declared.pair.Pair.{Pair}
-use Rattle.hn_assign.specs.Pair.{IsWished, assigned_pair, pair_cmp}
-use Rattle.hn_deleg.specs.declared.delegated.Delegated.{Delegated}
-use Rattle.hn_deleg.specs.Used.{AreUsable, prefixes_of}
-use Rattle.hn_deleg.specs.Laws.{UsableIsUnique, UsableNeverOverlap}
-use Rattle.hn_link.specs.Laws.{CommonLinkExists}
-use Rattle.hn_rules.specs.Laws.{AssignedIsPublished, OwnPeersAreOfEndpoints, PrivatePostIsAlone}
-use Rattle.hn_rules.specs.Seen.{seen_by}
-use Rattle.hn_sound.specs.Home.{Endpoint, EndpointHasAssignment, HasPublished}
+use Rattle.hn_sound.specs.Home.{HasPublished}
 use Rattle.hn_sound.specs.Premises.{IsHome}
 use Rattle.hn_sound.specs.Premises.Premise.{OneLink, OnceOnLink, UsedApart, ForUsed, PublishedInside, OneEach, PriorityTwo}
-use Rattle.hn_world.specs.declared.member.Member.{Member}
-use Rattle.hn_world.specs.declared.parts.Parts.{Parts}
-use Rattle.hn_audit.specs.Reached.{IsReached}
-use Rattle.hn_audit.specs.Settled.{AreSame}
-use Rattle.hn_audit.specs.Quiet.{IsQuiet}
 use Rattle.hn_audit.specs.Sound as said
-use Rattle.hn_audit.specs.Sound.{Link, IsPostOn}
 use Rattle.hn_audit.proofs.BridgeSets.{IsKnown, OwnVersions, router_of, itself, one_member}
 use Rattle.hn_audit.proofs.BridgeUsed.{used_same}
 use Rattle.hn_audit.proofs.BridgeHomes.{home_of, number_of, IsEndOf, same_link, of_end, of_has, one_link_of, one_on_link}
-use Rattle.hn_base.proofs.PartsAtPlaces.{one_of_ascending}
 
 -- a settled router of a replayed world, and the delegated prefixes that it uses
 pub record IsCase (w : Parts) (r : Member) (usable : List Delegated) : Type 0 where

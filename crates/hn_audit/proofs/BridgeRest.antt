@@ -1,30 +1,11 @@
 -- In the home of a settled and quiet set each pair is at rest as its router sees it.
-use Rattle.std.proofs.Common.{◌≡◌, ◌∙◌, ◌↔◌, ℕ, not, List, Option, Some, None, Contains, refl, sym, ap, subst}
-use Rattle.std.specs.List.{slice_get}
+use Rattle.hn_base.proofs.Names.{◌≡◌, ◌∙◌, ◌↔◌, ℕ, not, List, Option, Some, None, Contains, refl, sym, ap, subst, PlainPrefix, HasAt}
+use Rattle.hn_audit.proofs.Names.{slice_get, NodeId, EpId, Assigned, Wish, Pair, assigned_pair, pair_cmp, wish_pair, IsAtRest, Delegated, prefixes_of, IsCommonLink, length_at, posts_of, IsWishAt}
+use Rattle.hn_audit.proofs.Names.{IsRouter, seen_by, Endpoint, IsOnLinkOf, Member, Parts, AreSame, IsRouterAtRest, IsQuiet}
 use Rattle.hn_base.proofs.AtKey.{has_some}
-use Rattle.hn_base.specs.declared.ids.NodeId.{NodeId}
-use Rattle.hn_base.specs.declared.ids.EpId.{EpId}
-use Rattle.hn_base.specs.Prefix.{PlainPrefix}
-use Rattle.hn_assign.specs.declared.assigned.Assigned.{Assigned}
-use Rattle.hn_assign.specs.declared.assigned.Wish.{Wish}
-use Rattle.hn_assign.specs.declared.pair.Pair.{Pair}
-use Rattle.hn_base.specs.Ascending.{HasAt}
-use Rattle.hn_assign.specs.Pair.{assigned_pair, pair_cmp, wish_pair}
-use Rattle.hn_assign.specs.Rest.{IsAtRest}
-use Rattle.hn_deleg.specs.declared.delegated.Delegated.{Delegated}
-use Rattle.hn_deleg.specs.Used.{prefixes_of}
-use Rattle.hn_link.specs.CommonLink.{IsCommonLink}
-use Rattle.hn_own.specs.Posts.{length_at, posts_of}
-use Rattle.hn_rules.specs.Assigning.{IsWishAt}
-use Rattle.hn_rules.specs.Router.{IsRouter}
-use Rattle.hn_rules.specs.Seen.{seen_by}
 use Rattle.hn_sound.specs.AtRest.{IsAssignmentOf}
-use Rattle.hn_sound.specs.Home.{Endpoint, wish_of}
-use Rattle.hn_sound.specs.Members.{IsOnLinkOf, IsSeenAtRest}
-use Rattle.hn_world.specs.declared.member.Member.{Member}
-use Rattle.hn_world.specs.declared.parts.Parts.{Parts}
-use Rattle.hn_audit.specs.Settled.{AreSame}
-use Rattle.hn_audit.specs.Quiet.{IsRouterAtRest, IsQuiet}
+use Rattle.hn_sound.specs.Home.{wish_of}
+use Rattle.hn_sound.specs.Members.{IsSeenAtRest}
 use Rattle.hn_audit.proofs.BridgeSets.{router_of}
 use Rattle.hn_audit.proofs.BridgeUsed.{IsAskedFor, asked_for, delegated_at, is_unwanted, is_wanted, place_of}
 use Rattle.hn_audit.proofs.BridgeHomes.{home_of, set_of, length_in, length_is, IsEndOf, of_end, to_has, of_has, on_link_is_post}

@@ -1,33 +1,13 @@
 -- What a router of a settled set knows of the assignments and of the links of the set is how they are.
-use Rattle.std.proofs.Common.{◌≡◌, ◌∙◌, ◌↔◌, ◌⊎◌, ◌<◌, ℕ, List, Option, Some, None, Contains, inl, inr, refl, sym, ap, subst}
-use Rattle.std.specs.Option.{option_map}
-use Rattle.std.proofs.lemmas.Bool.{cases_eq}
-use Rattle.std.proofs.lemmas.Option.{same_Some}
-use Rattle.hn_base.proofs.Keys.{same_node, same_id}
-use Rattle.hn_base.specs.Caps.{plain_caps}
-use Rattle.hn_base.specs.declared.ids.NodeId.{NodeId}
-use Rattle.hn_base.specs.declared.ids.EpId.{EpId}
-use Rattle.hn_assign.specs.declared.assigned.Advertised.{Advertised}
-use Rattle.hn_assign.specs.declared.assigned.Assigned.{Assigned}
+use Rattle.hn_base.proofs.Names.{◌≡◌, ◌∙◌, ◌↔◌, ◌⊎◌, ◌<◌, ℕ, List, Option, Some, None, Contains, inl, inr, refl, sym, ap, subst, option_map, cases_eq, same_Some, plain_caps}
+use Rattle.hn_audit.proofs.Names.{same_node, same_id, NodeId, EpId, Advertised, Assigned, IsLinked, HasPeer, peer_link, Entry, Delegated, IsOnCommonLink, view_of, seen_by, Endpoint, IsOnLinkOf}
+use Rattle.hn_audit.proofs.Names.{Member, Parts, link_of, IsReached, AreOnOneLink, AreLinked, IsSameEndpoint, Link, Joint, Private, IsPostOn, in_filter_map, from_filter_map}
 use Rattle.hn_assign.specs.Gathered as gathered
-use Rattle.hn_data.specs.Peers.{IsLinked, HasPeer, peer_link}
 use Rattle.hn_data.specs.Said.{HasAssigned, HasVersion}
 use Rattle.hn_data.specs.declared.said.AssignedPrefix.{AssignedPrefix}
-use Rattle.hn_data.specs.declared.view.Entry.{Entry}
-use Rattle.hn_deleg.specs.declared.delegated.Delegated.{Delegated}
-use Rattle.hn_link.specs.CommonLink.{IsOnCommonLink, IsLinkedWithOwn}
+use Rattle.hn_link.specs.CommonLink.{IsLinkedWithOwn}
 use Rattle.hn_own.specs.HeldPairs.{publication_of}
-use Rattle.hn_rules.specs.Nodes.{view_of}
-use Rattle.hn_rules.specs.Seen.{seen_by}
-use Rattle.hn_sound.specs.Home.{Endpoint}
-use Rattle.hn_sound.specs.Members.{IsAdvertisedInHome, IsOnLinkOf}
-use Rattle.hn_world.specs.declared.member.Member.{Member}
-use Rattle.hn_world.specs.declared.parts.Parts.{Parts}
-use Rattle.hn_world.specs.Names.{link_of}
-use Rattle.hn_audit.specs.Reached.{IsReached, AreOnOneLink}
-use Rattle.hn_audit.specs.Settled.{AreLinked, IsSameEndpoint}
-use Rattle.hn_audit.specs.Sound.{Link, Joint, Private, IsPostOn}
-use Rattle.hn_base.proofs.Elements.{in_filter_map, from_filter_map}
+use Rattle.hn_sound.specs.Members.{IsAdvertisedInHome}
 use Rattle.hn_audit.proofs.BridgeSets.{router_of, one_member, in_view, of_view}
 use Rattle.hn_audit.proofs.BridgeHomes.{home_of, number_of, end_on, IsEndOf, same_link, to_end, of_end, end_there, to_held, of_held, port_is_numbered, on_link_is_attached}
 use Rattle.hn_audit.proofs.BridgePremises.{IsCase}

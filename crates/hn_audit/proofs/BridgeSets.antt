@@ -1,25 +1,7 @@
 -- The set of a settled router: its routers are known by their identifiers, and each sees the others as they are.
-use Rattle.std.proofs.Common.{◌≡◌, ◌∙◌, true, List, Some, Contains, inl, inr, refl, sym, ap, subst, ◌==◌}
-use Rattle.std.proofs.lemmas.Bool.{and_from, and_parts, eqb-true, eq-eqb, cases_eq}
-use Rattle.std.proofs.lemmas.List.Elements.{All-contains}
-use Rattle.std.proofs.lemmas.Option.{same_Some}
-use Rattle.hn_base.proofs.AscendingLists.{Contains-from_map}
-use Rattle.hn_base.proofs.Keys.{same_node}
-use Rattle.hn_base.specs.declared.ids.NodeId.{NodeId}
-use Rattle.hn_base.specs.Caps.{plain_caps}
-use Rattle.hn_data.specs.Items.{HasItems}
-use Rattle.hn_data.specs.Said.{version_of}
-use Rattle.hn_data.specs.declared.view.Entry.{Entry}
-use Rattle.hn_rules.specs.declared.state.State.{State}
-use Rattle.hn_rules.specs.Laws.{ViewIsNetwork, EntriesAreAsKnown}
-use Rattle.hn_rules.specs.Nodes.{held_entry, own_entry, entry_of, view_of}
-use Rattle.hn_rules.specs.Router.{IsRouter}
-use Rattle.hn_world.specs.declared.member.Member.{Member}
-use Rattle.hn_world.specs.declared.parts.Parts.{Parts}
-use Rattle.hn_world.specs.Replay.{IsAttachedMember}
-use Rattle.hn_audit.specs.Reached.{IsRunning, IsReached, IsOfOne, runs_as}
-use Rattle.hn_audit.specs.Settled.{IsSettled, HoldsState}
-use Rattle.hn_base.proofs.Elements.{in_filter_map, from_filter_map}
+use Rattle.hn_base.proofs.Names.{◌≡◌, ◌∙◌, true, List, Some, Contains, inl, inr, refl, sym, ap, subst, and_from, and_parts, eqb-true, eq-eqb, cases_eq, All-contains, same_Some, plain_caps}
+use Rattle.hn_audit.proofs.Names.{◌==◌, Contains-from_map, same_node, NodeId, HasItems, version_of, Entry, State, ViewIsNetwork, EntriesAreAsKnown, held_entry, own_entry, entry_of, view_of, IsRouter}
+use Rattle.hn_audit.proofs.Names.{Member, Parts, IsAttachedMember, IsRunning, IsReached, IsOfOne, runs_as, IsSettled, HoldsState, in_filter_map, from_filter_map}
 use Rattle.hn_audit.proofs.BridgeLists.{one_passes, two_pass}
 
 -- ---- what is known of a settled router of a replayed world

@@ -1,24 +1,12 @@
 -- What is sound of the home of a settled and quiet set is sound of its routers.
-use Rattle.std.proofs.Common.{◌≡◌, ◌≢◌, ◌∙◌, ◌⊎◌, ℕ, List, Option, None, Some, IsSome, is_some, Contains, IsTrue, not, inl, inr, refl, sym, ap, subst, true, false}
-use Rattle.std.specs.List.{slice_get}
-use Rattle.std.proofs.lemmas.Bool.{cases_Bool, not_from_false}
-use Rattle.hn_base.specs.declared.ids.EpId.{EpId}
-use Rattle.hn_base.specs.Prefix.{PlainPrefix, IsWithin, Overlaps}
-use Rattle.hn_assign.specs.declared.assigned.Assigned.{Assigned}
+use Rattle.hn_base.proofs.Names.{◌≡◌, ◌≢◌, ◌∙◌, ◌⊎◌, ℕ, List, Option, None, Some, IsSome, is_some, Contains, IsTrue, not, inl, inr, refl, sym, ap, subst, true, false, cases_Bool, not_from_false}
+use Rattle.hn_base.proofs.Names.{PlainPrefix, IsWithin, Overlaps}
+use Rattle.hn_audit.proofs.Names.{slice_get, EpId, Assigned, Delegated, prefixes_of, length_at, seen_by, Endpoint, AdvertisedIsExact, Member, Parts, IsReached, IsQuiet, AreSame, Uses, Link, Joint}
+use Rattle.hn_audit.proofs.Names.{Private, IsPostOn, IsThere, IsServedLink, IsWithout, IsHeldOn}
 use Rattle.hn_assign.specs.Best.{HasNoFree}
-use Rattle.hn_deleg.specs.declared.delegated.Delegated.{Delegated}
-use Rattle.hn_deleg.specs.Used.{prefixes_of}
-use Rattle.hn_own.specs.Posts.{length_at}
-use Rattle.hn_rules.specs.Seen.{seen_by}
-use Rattle.hn_sound.specs.Home.{Endpoint, advertised}
-use Rattle.hn_sound.specs.Laws.{AdvertisedIsExact}
+use Rattle.hn_sound.specs.Home.{advertised}
 use Rattle.hn_sound.specs.Sound as home
-use Rattle.hn_world.specs.declared.member.Member.{Member}
-use Rattle.hn_world.specs.declared.parts.Parts.{Parts}
-use Rattle.hn_audit.specs.Reached.{IsReached}
-use Rattle.hn_audit.specs.Quiet.{IsQuiet}
-use Rattle.hn_audit.specs.Settled.{AreSame}
-use Rattle.hn_audit.specs.Sound.{Uses, DoesNotWant, SeesNoFree, Link, Joint, Private, IsPostOn, IsThere, IsServedLink, IsWithout, IsHeldOn}
+use Rattle.hn_audit.specs.Sound.{DoesNotWant, SeesNoFree}
 use Rattle.hn_audit.proofs.BridgeSets.{IsKnown, one_member}
 use Rattle.hn_audit.proofs.BridgeUsed.{is_unwanted, to_unwanted, place_of, delegated_at}
 use Rattle.hn_audit.proofs.BridgeHomes.{home_of, set_of, number_of, end_on, length_in, length_is, IsEndOf, same_link, an_end, end_there, of_end, to_has, of_has}

@@ -1,26 +1,12 @@
 -- The used delegated prefixes of a settled set, which of them are wanted, and what is asked for a pair.
-use Rattle.std.proofs.Common.{◌≡◌, ◌∙◌, ◌<◌, ◌↔◌, ℕ, Bool, true, IsTrue, List, Option, Some, Contains, length, not, refl, sym, ap, subst, ◌==◌, ◌&&◌, nat_lt}
-use Rattle.std.specs.List.{list_any, slice_get}
-use Rattle.std.specs.List.Sorted.{IsStrictlySortedBy}
-use Rattle.std.specs.Ordering.{on}
-use Rattle.std.proofs.lemmas.Bool.{and_from, and_parts, eqb-true, eq-eqb, ltb-true, lt-ltb, false_from_ne_true, not-true, not_from_false}
-use Rattle.std.proofs.lemmas.Option.{same_Some, slice_get_within, slice_get-get_or, get_or_from_slice_get}
-use Rattle.hn_base.proofs.AscendingLists.{sorted_parts}
-use Rattle.hn_base.specs.Prefix.{PlainPrefix, prefix_cmp}
-use Rattle.hn_data.specs.View.{PlainView}
-use Rattle.hn_deleg.specs.declared.delegated.Delegated.{Delegated}
-use Rattle.hn_deleg.specs.Used.{AreUsable, IsUnwanted, prefixes_of}
-use Rattle.hn_deleg.specs.Laws.{UsableIsUnique}
-use Rattle.hn_assign.specs.declared.assigned.Wish.{Wish}
-use Rattle.hn_rules.specs.Assigning.{IsWishAt}
-use Rattle.hn_audit.specs.Settled.{AreSame, UseSame}
-use Rattle.hn_rules.specs.declared.state.State.{State}
-use Rattle.hn_rules.specs.Seen.{seen_by}
-use Rattle.hn_base.proofs.Elements.{any_of, any_from}
+use Rattle.hn_base.proofs.Names.{◌≡◌, ◌∙◌, ◌<◌, ◌↔◌, ℕ, Bool, true, IsTrue, List, Option, Some, Contains, length, not, refl, sym, ap, subst, nat_lt, list_any, IsStrictlySortedBy, on, and_from}
+use Rattle.hn_base.proofs.Names.{and_parts, eqb-true, eq-eqb, ltb-true, lt-ltb, false_from_ne_true, not-true, not_from_false, same_Some, slice_get_within, slice_get-get_or, get_or_from_slice_get}
+use Rattle.hn_base.proofs.Names.{PlainPrefix, prefix_cmp}
+use Rattle.hn_audit.proofs.Names.{◌==◌, ◌&&◌, slice_get, sorted_parts, PlainView, Delegated, AreUsable, IsUnwanted, prefixes_of, UsableIsUnique, Wish, IsWishAt, AreSame, UseSame, State, seen_by}
+use Rattle.hn_audit.proofs.Names.{any_of, any_from, part_at, part_stands, one_of_ascending}
 use Rattle.hn_audit.proofs.BridgeLists.{same_Bool}
 use Rattle.hn_base.proofs.Prefixes.{is_one_prefix, prefix_decided, prefix_total}
 use Rattle.hn_base.proofs.DecidingTests.{not_both}
-use Rattle.hn_base.proofs.PartsAtPlaces.{part_at, part_stands, one_of_ascending}
 
 -- ---- whether a delegated prefix is wanted
 

@@ -1,20 +1,12 @@
 -- The node data of a router has one HNCP-Version, with its capabilities.
-use Rattle.std.proofs.Common.{◌≡◌, ◌∙◌, ℕ, List, [], ◌∷◌, ◌++◌, map, Option, Some, Contains, refl, sym, ap, subst}
+use Rattle.hn_base.proofs.Names.{◌≡◌, ◌∙◌, ℕ, List, [], ◌∷◌, ◌++◌, map, Option, Some, Contains, refl, sym, ap, subst, filter_map, filter_map-append, PlainCaps, plain_caps}
+use Rattle.hn_audit.proofs.Names.{Contains-head, Contains-one, nothing_in, PlainItem, HasItems, ItemsAreUnique, version_of, OwnPrefix, State, IsRouter, in_filter_map, from_filter_map}
 use Rattle.std.specs.Prelude.{codes}
-use Rattle.std.specs.List.{filter_map}
-use Rattle.std.proofs.lemmas.List.Elements.{filter_map-append}
-use Rattle.hn_base.proofs.AscendingLists.{Contains-head, Contains-one, nothing_in}
-use Rattle.hn_base.specs.Caps.{PlainCaps, plain_caps}
-use Rattle.hn_typed.specs.Item.{PlainItem, Version}
-use Rattle.hn_data.specs.Items.{HasItems, first_of}
-use Rattle.hn_data.specs.Laws.{ItemsAreUnique}
-use Rattle.hn_data.specs.Said.{caps_of, version_of}
+use Rattle.hn_typed.specs.Item.{Version}
+use Rattle.hn_data.specs.Items.{first_of}
+use Rattle.hn_data.specs.Said.{caps_of}
 use Rattle.hn_own.specs.declared.own.OwnItems.{OwnItems}
-use Rattle.hn_own.specs.declared.own_prefixes.OwnPrefix.{OwnPrefix}
 use Rattle.hn_own.specs.Own.{peer_item, external_items, assigned_item, address_item, items_of}
-use Rattle.hn_rules.specs.declared.state.State.{State}
-use Rattle.hn_rules.specs.Router.{IsRouter}
-use Rattle.hn_base.proofs.Elements.{in_filter_map, from_filter_map}
 use Rattle.hn_audit.proofs.BridgeSets.{OwnVersions}
 use Rattle.hn_rules.specs.Laws.{ItemsArePublished}
 use Rattle.hn_base.proofs.Elements.{none_given, given_by_parts, none_or_some}

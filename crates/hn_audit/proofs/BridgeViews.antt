@@ -1,10 +1,7 @@
 -- Of a settled set each router sees each other as it is, and nobody else.
-use Rattle.std.proofs.Common.{List, Contains, subst}
-use Rattle.hn_base.specs.declared.ids.NodeId.{NodeId}
-use Rattle.hn_world.specs.declared.member.Member.{Member}
-use Rattle.hn_world.specs.declared.parts.Parts.{Parts}
+use Rattle.hn_base.proofs.Names.{List, Contains, subst}
+use Rattle.hn_audit.proofs.Names.{NodeId, Member, Parts, IsReached}
 use Rattle.hn_audit.specs.Laws.{AreSeen, SettledSeeEachOther}
-use Rattle.hn_audit.specs.Reached.{IsReached}
 use Rattle.hn_audit.proofs.BridgeSets.{IsKnown, reach_is, one_member, member_of, in_view, of_view}
 use Rattle.hn_audit.proofs.BridgeWorlds.{WorldLaws, known_of}
 

@@ -1,28 +1,14 @@
 -- A running router of a replayed world that is settled and quiet is sound, and where it is settled its set is sound alike.
-use Rattle.std.proofs.Common.{List, [], sym, subst}
-use Rattle.std.specs.Cmp.{IsTotalOrder}
-use Rattle.std.proofs.lemmas.List.{append-nil}
-use Rattle.std.proofs.lemmas.List.Elements.{All-contains}
-use Rattle.hn_base.specs.Ascending.{IsExact}
-use Rattle.hn_assign.specs.Pair.{pair_cmp}
-use Rattle.hn_data.specs.Laws.{ItemsAreUnique}
-use Rattle.hn_deleg.specs.declared.delegated.Delegated.{Delegated}
-use Rattle.hn_deleg.specs.Laws.{UsableExists, UsableIsUnique, UsableNeverOverlap}
-use Rattle.hn_deleg.specs.Used.{AreUsable}
-use Rattle.hn_link.specs.Laws.{CommonLinkExists}
-use Rattle.hn_rules.specs.Laws.{AssignedIsPublished, ViewIsNetwork, EntriesAreAsKnown, OwnPeersAreOfEndpoints, PrivatePostIsAlone}
-use Rattle.hn_rules.specs.Seen.{seen_by}
-use Rattle.hn_sound.specs.Laws.{AdvertisedIsExact, CommonLinkIsExact, HomeRestsAsSeen, HomeAtRestIsSound}
+use Rattle.hn_base.proofs.Names.{List, [], sym, subst, IsTotalOrder, append-nil, All-contains, IsExact}
+use Rattle.hn_audit.proofs.Names.{pair_cmp, ItemsAreUnique, Delegated, UsableIsUnique, UsableNeverOverlap, AreUsable, CommonLinkExists, AssignedIsPublished, ViewIsNetwork, EntriesAreAsKnown}
+use Rattle.hn_audit.proofs.Names.{OwnPeersAreOfEndpoints, PrivatePostIsAlone, seen_by, AdvertisedIsExact, CommonLinkIsExact, Member, Parts, IsReplayed, IsAttachedMember, IsSoundMember, IsQuiet}
+use Rattle.hn_audit.proofs.Names.{IsRunning, IsSettled, Joint, IsSound}
+use Rattle.hn_deleg.specs.Laws.{UsableExists}
+use Rattle.hn_sound.specs.Laws.{HomeRestsAsSeen, HomeAtRestIsSound}
 use Rattle.hn_sound.specs.Sound as home
-use Rattle.hn_world.specs.declared.member.Member.{Member}
-use Rattle.hn_world.specs.declared.parts.Parts.{Parts}
-use Rattle.hn_world.specs.Replay.{IsReplayed, AreAttached, IsAttachedMember, IsSoundMember}
+use Rattle.hn_world.specs.Replay.{AreAttached}
 use Rattle.hn_world.specs.Laws.{AtMostOneWorld, WorldIsSound, AlwaysAttached}
 use Rattle.hn_audit.specs.Laws.{SettledAndQuietIsSound, ReplayedElectAlike, SetIsSoundAlike}
-use Rattle.hn_audit.specs.Quiet.{IsQuiet}
-use Rattle.hn_audit.specs.Reached.{IsRunning}
-use Rattle.hn_audit.specs.Settled.{IsSettled}
-use Rattle.hn_audit.specs.Sound.{Joint, IsSound}
 use Rattle.hn_audit.proofs.BridgeSets.{IsKnown, OwnVersions, itself}
 use Rattle.hn_audit.proofs.BridgeHomes.{home_of}
 use Rattle.hn_audit.proofs.BridgePremises.{IsCase, is_home}

@@ -1,31 +1,15 @@
 -- A settled and quiet router stays so over a calm delivery.
-use Rattle.std.proofs.Common.{◌≡◌, ◌∙◌, ℕ, get_or, List, Some, slice_get, inr, refl, sym, ap, subst, arith}
-use Rattle.std.specs.Prelude.{not, if◌then◌else◌, Bool, true, false, IsTrue}
-use Rattle.std.specs.List.{slice_set}
-use Rattle.std.proofs.lemmas.List.Elements.{All-contains}
-use Rattle.hn_base.proofs.PartsAtPlaces.{contains_at}
-use Rattle.hn_base.specs.Words.{Begins}
-use Rattle.hn_base.specs.declared.ids.EpId.{EpId}
-use Rattle.hn_base.specs.declared.ids.NodeId.{NodeId}
-use Rattle.hn_own.specs.Ports.{endpoints_of, is_attached}
-use Rattle.hn_rules.specs.declared.arrival.passing.Passing.{Passing}
-use Rattle.hn_rules.specs.declared.done.Done.{Done}
+use Rattle.hn_base.proofs.Names.{◌≡◌, ◌∙◌, ℕ, get_or, List, Some, slice_get, inr, refl, sym, ap, subst, arith, if◌then◌else◌, All-contains, Begins}
+use Rattle.hn_audit.proofs.Names.{IsTrue, slice_set, contains_at, EpId, NodeId, endpoints_of, is_attached, Passing, Done, State, after_passing, IsStatusUpdate, Tick, MailCopy, Member, Parts}
+use Rattle.hn_audit.proofs.Names.{IsSoundMember, origin_of, IsCalmArrival, IsRouterAtRest, IsReached, UseSame, IsMemberAt}
+use Rattle.std.specs.Prelude.{not, Bool, true, false}
 use Rattle.hn_rules.specs.declared.running.Origin.{Origin}
-use Rattle.hn_rules.specs.declared.state.State.{State}
 use Rattle.hn_rules.specs.Done.{nothing}
-use Rattle.hn_rules.specs.Passing.{after_passing, IsLetPass, IsStatusUpdate}
+use Rattle.hn_rules.specs.Passing.{IsLetPass}
 use Rattle.hn_rules.specs.Updates.{PeersUpdatesPass}
-use Rattle.hn_router.specs.Act.{Arrive, Tick, Happened, is_refused}
+use Rattle.hn_router.specs.Act.{Arrive, Happened, is_refused}
 use Rattle.hn_router.specs.Laws.{EndpointsFollow, OneResult}
-use Rattle.hn_world.specs.declared.copies.MailCopy.{MailCopy}
-use Rattle.hn_world.specs.declared.member.Member.{Member}
-use Rattle.hn_world.specs.declared.parts.Parts.{Parts}
-use Rattle.hn_world.specs.Replay.{IsSoundMember}
-use Rattle.hn_audit.specs.Calm.{origin_of, IsCalmArrival, QuietStaysOverDeliveries}
-use Rattle.hn_audit.specs.Quiet.{IsRouterAtRest}
-use Rattle.hn_audit.specs.Reached.{IsReached}
-use Rattle.hn_audit.specs.Settled.{UseSame}
-use Rattle.hn_audit.specs.Staying.{IsMemberAt}
+use Rattle.hn_audit.specs.Calm.{QuietStaysOverDeliveries}
 use Rattle.hn_audit.proofs.RestOfPassed.{PassLaws, rests_passed}
 use Rattle.hn_audit.proofs.StayingSets.{IsStillAs}
 use Rattle.hn_audit.proofs.StayingSteps.{StayLaws, put_there, tick_still, stays_where_still}

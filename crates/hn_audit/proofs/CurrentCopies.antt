@@ -1,32 +1,8 @@
 -- The copies that a tick makes are current, and copies stay so.
-use Rattle.std.proofs.Common.{◌≡◌, ◌≢◌, ◌∙◌, ◌<◌, ◌^◌, ℕ, true, Option, Some, is_none, slice_get, refl, sym, ap, subst, arith}
-use Rattle.std.specs.Prelude.{◌==◌, IsTrue}
-use Rattle.std.proofs.lemmas.Bool.{and_from, eq-eqb}
-use Rattle.std.proofs.lemmas.List.Elements.{All-contains}
-use Rattle.std.proofs.lemmas.Option.{same_Some, slice_get_within}
-use Rattle.hn_base.proofs.AscendingLists.{Contains-from_map}
-use Rattle.hn_base.proofs.PartsAtPlaces.{contains_at}
-use Rattle.hn_base.specs.Addr.{IsLinkLocal}
-use Rattle.hn_base.specs.declared.addr.Addr.{Addr}
-use Rattle.hn_base.specs.declared.ids.EpId.{EpId}
-use Rattle.hn_base.specs.declared.ids.NodeId.{NodeId}
-use Rattle.hn_data.specs.Peers.{peer_link, HasPeer}
-use Rattle.hn_dncp.specs.declared.port.Port.{Port}
-use Rattle.hn_own.specs.Own.{PlainData}
-use Rattle.hn_own.specs.Ports.{ArePorts, endpoints_of}
-use Rattle.hn_rules.specs.declared.done.Outgoing.{Outgoing}
-use Rattle.hn_rules.specs.declared.state.State.{State}
-use Rattle.hn_rules.specs.Laws.{HashIsOfLeaves}
-use Rattle.hn_rules.specs.Passing.{IsStatusUpdate}
-use Rattle.hn_rules.specs.Updates.{IsStatusSend}
-use Rattle.hn_world.specs.declared.copies.MailCopy.{MailCopy}
-use Rattle.hn_world.specs.declared.member.Member.{Member}
-use Rattle.hn_world.specs.declared.parts.Parts.{Parts}
-use Rattle.hn_world.specs.Mail.{copy_for}
-use Rattle.hn_world.specs.Replay.{IsReplayed}
-use Rattle.hn_audit.specs.Calm.{IsCurrent}
-use Rattle.hn_audit.specs.Reached.{runs_as, IsRunning, IsOfOne, IsReached, IsOnLink, AreOnOneLink}
-use Rattle.hn_audit.specs.Settled.{AreLinked}
+use Rattle.hn_base.proofs.Names.{◌≡◌, ◌≢◌, ◌∙◌, ◌<◌, ◌^◌, ℕ, true, Option, Some, slice_get, refl, sym, ap, subst, arith, ◌==◌, and_from, eq-eqb, All-contains, same_Some, slice_get_within, IsLinkLocal}
+use Rattle.hn_audit.proofs.Names.{IsTrue, Contains-from_map, contains_at, Addr, EpId, NodeId, peer_link, HasPeer, Port, PlainData, ArePorts, endpoints_of, Outgoing, State, HashIsOfLeaves}
+use Rattle.hn_audit.proofs.Names.{IsStatusUpdate, IsStatusSend, MailCopy, Member, Parts, copy_for, IsReplayed, IsCurrent, runs_as, IsRunning, IsOfOne, IsReached, IsOnLink, AreOnOneLink, AreLinked}
+use Rattle.std.proofs.Common.{is_none}
 use Rattle.hn_audit.proofs.BridgeSets.{IsKnown}
 use Rattle.hn_audit.proofs.CopiesOnLinks.{IsCopyOf, one_endpoint, one_place}
 use Rattle.hn_audit.proofs.FewRouters.{few_routers, near}

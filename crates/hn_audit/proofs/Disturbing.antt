@@ -1,31 +1,12 @@
 -- What the search for what a set would do finds, as facts of the world: nothing if and only if the router is quiet.
-use Rattle.std.proofs.Common.{◌≡◌, ◌↔◌, Bool, true, false, IsTrue, IfSome, Option, Some, None, Contains, refl, sym, subst, inl, inr}
-use Rattle.std.specs.Cmp.{IsTotalOrder}
-use Rattle.std.proofs.lemmas.Bool.{false≢true}
-use Rattle.std.proofs.lemmas.List.Elements.{All-contains}
-use Rattle.hn_base.specs.Ascending.{HasAt}
-use Rattle.hn_base.proofs.PartsAtPlaces.{contains_at}
-use Rattle.hn_assign.specs.declared.assigned.Advertised.{Advertised}
-use Rattle.hn_assign.specs.declared.assigned.Assigned.{Assigned}
-use Rattle.hn_assign.specs.declared.assigned.Wish.{Wish}
+use Rattle.hn_base.proofs.Names.{◌≡◌, ◌↔◌, Bool, true, false, IsTrue, IfSome, Option, Some, None, Contains, refl, sym, subst, inl, inr, IsTotalOrder, false≢true, All-contains, HasAt}
+use Rattle.hn_audit.proofs.Names.{contains_at, Advertised, Assigned, Wish, IsWished, assigned_pair, pair_cmp, wish_pair, IsAtRest, UsableIsUnique, RestKnowsNoOrder, State, Member, Parts, Unquiet}
+use Rattle.hn_audit.proofs.Names.{IsFoundOf, act_of, FindsOfRouter, FindsRestless, FindsUnasked, IsFirstUnquiet, WitnessNamesRestless, IsQuiet, IsRouterAtRest, IsReached, set_of, Disturbs, IsOfSet}
 use Rattle.hn_assign.specs.Best.{IsBestIfAny}
 use Rattle.hn_assign.specs.Fixed.{IsWishAtRest}
-use Rattle.hn_assign.specs.Pair.{IsWished, assigned_pair, pair_cmp, wish_pair}
-use Rattle.hn_assign.specs.Rest.{IsAtRest}
-use Rattle.hn_deleg.specs.Laws.{UsableIsUnique}
-use Rattle.hn_sound.specs.Laws.{RestKnowsNoOrder}
-use Rattle.hn_rules.specs.declared.state.State.{State}
-use Rattle.hn_world.specs.declared.member.Member.{Member}
-use Rattle.hn_world.specs.declared.parts.Parts.{Parts}
-use Rattle.hn_audit.specs.declared.witness.Unquiet.{Unquiet}
 use Rattle.hn_audit.specs.declared.witness.Unquiet.TheVariants as act
-use Rattle.hn_audit.specs.First.{IsFoundOf}
-use Rattle.hn_audit.specs.FirstWitness.{act_of, FindsOfRouter, FindsRestless, FindsUnasked, IsFirstUnquiet}
-use Rattle.hn_audit.specs.Laws.{WitnessNamesRestless, WitnessRefutesQuiet}
-use Rattle.hn_audit.specs.Quiet.{IsQuiet, IsRouterAtRest}
-use Rattle.hn_audit.specs.Reached.{IsReached}
-use Rattle.hn_audit.specs.Set.{set_of}
-use Rattle.hn_audit.specs.Witness.{AsksFor, Disturbs, IsOfSet, Outlook}
+use Rattle.hn_audit.specs.Laws.{WitnessRefutesQuiet}
+use Rattle.hn_audit.specs.Witness.{AsksFor, Outlook}
 use Rattle.hn_audit.proofs.RestIsOne.{rests_in_order, wished_there}
 use Rattle.hn_audit.proofs.Settling.{each_of_set, set_has}
 

@@ -1,9 +1,8 @@
 -- Which elements lists have, and lists that grow by what an element gives.
-use Rattle.std.proofs.Common.{◌≡◌, ℕ, ◌+◌, ◌<◌, Bool, true, false, List, [], ◌∷◌, ◌++◌, length, get_or, take, Contains, refl, sym, ◌∙◌, ap, subst, inl, inr}
-use Rattle.std.specs.List.{filter, flat_map}
-use Rattle.std.proofs.lemmas.List.{take_more, append-nil}
-use Rattle.std.proofs.lemmas.List.Elements.{Contains-append_left, Contains-append_right, Contains-append_cases, filter-append}
-use Rattle.hn_base.proofs.AscendingLists.{nothing_in, Contains-head, Contains-tail, Contains-cases}
+use Rattle.hn_base.proofs.Names.{◌≡◌, ℕ, ◌+◌, ◌<◌, Bool, true, false, List, [], ◌∷◌, ◌++◌, length, get_or, take, Contains, refl, sym, ◌∙◌, ap, subst, inl, inr, flat_map, take_more, append-nil}
+use Rattle.hn_base.proofs.Names.{Contains-append_left, Contains-append_right, Contains-append_cases, filter-append}
+use Rattle.hn_audit.proofs.Names.{nothing_in, Contains-head, Contains-tail, Contains-cases}
+use Rattle.std.specs.List.{filter}
 
 -- ---- filter
 

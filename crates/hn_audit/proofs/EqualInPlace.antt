@@ -1,15 +1,6 @@
 -- Lists that are equal place by place, and routers that use the same.
-use Rattle.std.proofs.Common.{◌≡◌, ◌↔◌, ◌<◌, ℕ, suc, List, [], ◌∷◌, length, slice_get, refl, sym, ◌∙◌, ap, subst, arith}
-use Rattle.std.proofs.lemmas.List.{length-map}
-use Rattle.std.proofs.lemmas.Option.{same_Some, slice_get_within}
-use Rattle.hn_base.specs.Prefix.{PlainPrefix}
-use Rattle.hn_deleg.specs.declared.delegated.Delegated.{Delegated}
-use Rattle.hn_deleg.specs.Used.{AreUsable, prefixes_of}
-use Rattle.hn_deleg.specs.Laws.{UsableIsUnique}
-use Rattle.hn_rules.specs.declared.state.State.{State}
-use Rattle.hn_rules.specs.Seen.{seen_by}
-use Rattle.hn_audit.specs.Set.{AreSameAt}
-use Rattle.hn_audit.specs.Settled.{AreSame, UseSame}
+use Rattle.hn_base.proofs.Names.{◌≡◌, ◌↔◌, ◌<◌, ℕ, suc, List, [], ◌∷◌, length, slice_get, refl, sym, ◌∙◌, ap, subst, arith, length-map, same_Some, slice_get_within, PlainPrefix}
+use Rattle.hn_audit.proofs.Names.{Delegated, AreUsable, prefixes_of, UsableIsUnique, State, seen_by, AreSameAt, AreSame, UseSame}
 
 -- ---- place by place
 

@@ -1,26 +1,11 @@
 -- A router is at rest if and only if the assignment subroutine, run anew, changes nothing on it.
-use Rattle.std.proofs.Common.{◌∙◌, ◌↔◌, List, All, Contains, map, sym, ap, subst}
-use Rattle.std.specs.Cmp.{IsTotalOrder}
-use Rattle.std.proofs.lemmas.List.Elements.{All-contains}
-use Rattle.hn_base.proofs.AscendingLists.{Contains-from_map, Contains-map}
-use Rattle.hn_base.proofs.Elements.{all_of}
+use Rattle.hn_base.proofs.Names.{◌∙◌, ◌↔◌, List, Contains, map, sym, ap, subst, IsTotalOrder, All-contains}
+use Rattle.hn_audit.proofs.Names.{All, Contains-from_map, Contains-map, all_of, Advertised, Assigned, Held, Ran, AreAtRest, AreAssignmentsUnchanged, unmarked, AreAdvertised, IsWished, assigned_pair}
+use Rattle.hn_audit.proofs.Names.{pair_cmp, UsableIsUnique, State, IsRouter, seen_by, AnewHasARun, RestHasARun, IsRouterAtRest}
 use Rattle.hn_base.proofs.SomeExists.{some_then}
-use Rattle.hn_assign.specs.declared.assigned.Advertised.{Advertised}
-use Rattle.hn_assign.specs.declared.assigned.Assigned.{Assigned}
-use Rattle.hn_assign.specs.declared.held.Held.{Held}
-use Rattle.hn_assign.specs.declared.held.Ran.{Ran}
-use Rattle.hn_assign.specs.Fixed.{AreAtRest, AreAssignmentsUnchanged, unmarked}
-use Rattle.hn_assign.specs.Gathered.{AreAdvertised}
-use Rattle.hn_assign.specs.Pair.{IsWished, assigned_pair, pair_cmp}
 use Rattle.hn_assign.specs.Laws.{AssignedAreWished, RestHasADueRun, RestIsUnchanged, SubroutineHasADueRun, AdvertisedExists}
-use Rattle.hn_deleg.specs.Laws.{UsableIsUnique}
-use Rattle.hn_rules.specs.declared.state.State.{State}
 use Rattle.hn_rules.specs.Laws.{WishesExist}
-use Rattle.hn_rules.specs.Router.{IsRouter}
-use Rattle.hn_rules.specs.Seen.{seen_by}
 use Rattle.hn_audit.specs.Fixed.{IsRunAnew}
-use Rattle.hn_audit.specs.Laws.{AnewHasARun, RestHasARun}
-use Rattle.hn_audit.specs.Quiet.{IsRouterAtRest}
 use Rattle.hn_audit.proofs.RestIsOne.{wished_there, rests_there}
 
 -- the laws of the crates below on which it rests

@@ -1,10 +1,7 @@
 -- Worlds of a world's past.
-use Rattle.std.proofs.Common.{◌≡◌, ◌∙◌, List, ◌++◌, append_assoc, sym, ap, subst}
-use Rattle.hn_world.specs.declared.event.Traced.{Traced}
-use Rattle.hn_base.specs.declared.version.Version.{Version}
-use Rattle.hn_world.specs.declared.parts.Parts.{Parts}
-use Rattle.hn_world.specs.Replay.{Replays, IsReplayed, Always}
-use Rattle.hn_world.specs.Laws.{WorldHasItsTrace, WorldHasItsVersion}
+use Rattle.hn_base.proofs.Names.{◌≡◌, ◌∙◌, List, ◌++◌, append_assoc, sym, ap, subst}
+use Rattle.hn_audit.proofs.Names.{Traced, Version, Parts, Replays, IsReplayed, WorldHasItsTrace, WorldHasItsVersion}
+use Rattle.hn_world.specs.Replay.{Always}
 
 -- a world that a trace leads to is the replay of its own trace
 pub replayed : WorldHasItsTrace → WorldHasItsVersion → (version : Version) (ts : List Traced) (w : Parts) → Replays version ts w → IsReplayed w

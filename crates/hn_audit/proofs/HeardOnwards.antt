@@ -1,30 +1,12 @@
 -- A home whose peers were heard goes on resting.
-use Rattle.std.proofs.Common.{◌≡◌, ◌≢◌, ◌∙◌, ◌⊎◌, ◌<◌, ◌≤◌, ◌+◌, ◌-◌, ◌*◌, ℕ, Bool, true, false, cond, List, [], ◌∷◌, Option, Some, None, Contains, inl, inr, refl, sym, ap, subst, arith}
-use Rattle.std.specs.Prelude.{All, IsTrue, nat_lt, nat_le}
-use Rattle.std.specs.Option.{option_map_or}
-use Rattle.std.proofs.lemmas.Bool.{and_parts, cases_eq, eqb-false, leb-true}
-use Rattle.hn_base.proofs.AscendingLists.{Contains-head, Contains-tail, Contains-cases, Contains-from_map, nothing_in}
-use Rattle.hn_base.proofs.Elements.{all_of, found_passes}
-use Rattle.hn_base.specs.declared.ids.EpId.{EpId}
-use Rattle.hn_base.specs.declared.ids.NodeId.{NodeId}
+use Rattle.hn_base.proofs.Names.{◌≡◌, ◌≢◌, ◌∙◌, ◌⊎◌, ◌<◌, ◌≤◌, ◌+◌, ◌-◌, ◌*◌, ℕ, Bool, true, false, cond, List, [], ◌∷◌, Option, Some, None, Contains, inl, inr, refl, sym, ap, subst, arith, All}
+use Rattle.hn_base.proofs.Names.{nat_le, option_map_or, and_parts, cases_eq, eqb-false, leb-true}
+use Rattle.hn_audit.proofs.Names.{IsTrue, Contains-head, Contains-tail, Contains-cases, Contains-from_map, nothing_in, all_of, found_passes, EpId, NodeId, contacted, hashed, is_peer, Neighbour, Port}
+use Rattle.hn_audit.proofs.Names.{is_port, port_at, put_port, held, Stored, Passing, State, after_passing, at_moment, AreHeard, OwnIntervalIsDefault, Member, Parts, AreHeardSince, IsReached}
+use Rattle.std.specs.Prelude.{nat_lt}
 use Rattle.hn_timers.specs.KeepAlive.{is_expired}
-use Rattle.hn_dncp.specs.Hash.{contacted, hashed}
-use Rattle.hn_dncp.specs.Peers.{is_peer}
-use Rattle.hn_dncp.specs.declared.peers.Neighbour.{Neighbour}
-use Rattle.hn_dncp.specs.declared.port.Port.{Port}
-use Rattle.hn_own.specs.Ports.{is_port, port_at, put_port, heard_at}
-use Rattle.hn_store.specs.Nodes.{held}
-use Rattle.hn_store.specs.declared.stored.Stored.{Stored}
-use Rattle.hn_rules.specs.declared.arrival.passing.Passing.{Passing}
-use Rattle.hn_rules.specs.declared.state.State.{State}
-use Rattle.hn_rules.specs.Passing.{after_passing}
-use Rattle.hn_rules.specs.Still.{at_moment, AreHeard}
+use Rattle.hn_own.specs.Ports.{heard_at}
 use Rattle.hn_rules.specs.Tick.{HasInterval, IsExpired}
-use Rattle.hn_rules.specs.Updates.{OwnIntervalIsDefault}
-use Rattle.hn_world.specs.declared.member.Member.{Member}
-use Rattle.hn_world.specs.declared.parts.Parts.{Parts}
-use Rattle.hn_audit.specs.Heard.{AreHeardSince}
-use Rattle.hn_audit.specs.Reached.{IsReached}
 use Rattle.hn_audit.proofs.BridgeSets.{IsKnown, member_of, router_of}
 
 -- ---- nobody is silent

@@ -1,22 +1,10 @@
 -- What the search for a witness finds, as facts of the world: nothing if and only if the router is settled.
-use Rattle.std.proofs.Common.{◌≡◌, ◌≢◌, ◌∙◌, ◌↔◌, ◌<◌, ℕ, IfSome, Option, Some, None, refl, sym, ap, subst, inl, inr, arith}
-use Rattle.std.specs.List.{count_by}
-use Rattle.std.proofs.lemmas.List.Elements.{All-contains}
-use Rattle.hn_base.specs.declared.ids.NodeId.{NodeId}
-use Rattle.hn_base.proofs.PartsAtPlaces.{contains_at}
-use Rattle.hn_store.specs.Nodes.{held}
-use Rattle.hn_store.specs.declared.stored.Stored.{Stored}
-use Rattle.hn_world.specs.declared.member.Member.{Member}
-use Rattle.hn_world.specs.declared.parts.Parts.{Parts}
-use Rattle.hn_audit.specs.declared.witness.Unsettled.{Unsettled}
+use Rattle.hn_base.proofs.Names.{◌≡◌, ◌≢◌, ◌∙◌, ◌↔◌, ◌<◌, ℕ, IfSome, Option, Some, None, refl, sym, ap, subst, inl, inr, arith, count_by, All-contains}
+use Rattle.hn_audit.proofs.Names.{NodeId, contains_at, held, Stored, Member, Parts, Unsettled, IsFirstFound, IsFoundOf, unheld_of, FindsAlike, FindsHeld, FindsId, FindsReach, FindsUsed}
+use Rattle.hn_audit.proofs.Names.{IsFirstUnsettled, FindsNear, FindsOfPeers, FindsOnLinks, FindsStranger, FindsUnseen, FindsUntrue, runs_as, IsOfOne, IsReached, set_of, HoldsState, IsSettled, UseSame}
+use Rattle.hn_audit.proofs.Names.{IsOfSet, Refutes}
 use Rattle.hn_audit.specs.declared.witness.Unsettled.TheVariants as cause
-use Rattle.hn_audit.specs.First.{IsFirstFound, IsFoundOf}
-use Rattle.hn_audit.specs.FirstWitness.{unheld_of, FindsAlike, FindsHeld, FindsId, FindsReach, FindsUsed, IsFirstUnsettled, IsUnheld}
-use Rattle.hn_audit.specs.FirstWitness.{FindsNear, FindsOfPeers, FindsOnLinks, FindsStranger, FindsUnseen, FindsUntrue}
-use Rattle.hn_audit.specs.Reached.{runs_as, IsOfOne, IsReached}
-use Rattle.hn_audit.specs.Set.{set_of}
-use Rattle.hn_audit.specs.Settled.{HoldsState, IsSettled, UseSame}
-use Rattle.hn_audit.specs.Witness.{IsOfSet, Refutes}
+use Rattle.hn_audit.specs.FirstWitness.{IsUnheld}
 use Rattle.hn_audit.proofs.Settling.{each_of_set, each_two, in_set, set_has}
 use Rattle.hn_audit.proofs.Spotting.{linked_are, no_strangers_are, spot_is, spots_of_set}
 

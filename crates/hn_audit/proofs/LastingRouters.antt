@@ -1,46 +1,17 @@
 -- A router at rest that lasts until a moment is steady until then.
-use Rattle.std.proofs.Common.{◌≡◌, ◌∙◌, ◌<◌, ◌≤◌, ◌-◌, ◌^◌, ℕ, Bool, false, true, List, [], ◌∷◌, All, Contains, map, Option, None, Some, refl, sym, ap, subst, arith}
-use Rattle.std.specs.Prelude.{◌||◌, nat_le}
-use Rattle.std.specs.List.{filter_map}
-use Rattle.std.proofs.lemmas.Bool.{leb-false, leb-true, or_parts}
-use Rattle.std.proofs.lemmas.List.Elements.{All-contains, All-contains_itself, All-weaker}
-use Rattle.hn_base.proofs.Elements.{all_of}
-use Rattle.hn_base.specs.declared.ids.NodeId.{NodeId}
-use Rattle.hn_data.specs.Later.{IsLater}
-use Rattle.hn_data.specs.View.{PlainView}
-use Rattle.hn_deleg.specs.declared.delegated.Delegated.{Delegated}
+use Rattle.hn_base.proofs.Names.{◌≡◌, ◌∙◌, ◌<◌, ◌≤◌, ◌-◌, ◌^◌, ℕ, Bool, false, true, List, [], ◌∷◌, Contains, map, Option, None, Some, refl, sym, ap, subst, arith, ◌||◌, nat_le, filter_map, leb-false}
+use Rattle.hn_base.proofs.Names.{leb-true, or_parts, All-contains, All-contains_itself, All-weaker}
+use Rattle.hn_audit.proofs.Names.{All, all_of, NodeId, IsLater, PlainView, Delegated, AreUsable, Assigned, Wish, Ran, AreAtRest, AreAssignmentsUnchanged, IsWished, assigned_pair, PlainData, OwnPrefix}
+use Rattle.hn_audit.proofs.Names.{held, Passing, Done, State, IsRunAssigned, entry_of, view_of, after_passing, IsRested, IsRouter, seen_by, AreHeard, IsUneventful, at_moment, IsYoung, Happened, Tick}
+use Rattle.hn_audit.proofs.Names.{MomentIsNow, IsSteady, IsLastingUntil, IsRouterAtRest, AreSame, UseSame}
 use Rattle.hn_deleg.specs.Due.{IsLifetimeEnd}
 use Rattle.hn_deleg.specs.Laws.{AgedAreTheSamePrefixes, EndsOfLater, UnwantedOfLater, UsableOfLater}
 use Rattle.hn_deleg.specs.Later.{aged_delegated}
-use Rattle.hn_deleg.specs.Used.{AreUsable}
-use Rattle.hn_assign.specs.declared.assigned.Assigned.{Assigned}
-use Rattle.hn_assign.specs.declared.assigned.Wish.{Wish}
-use Rattle.hn_assign.specs.declared.held.Ran.{Ran}
-use Rattle.hn_assign.specs.Fixed.{AreAtRest, AreAssignmentsUnchanged}
-use Rattle.hn_assign.specs.Pair.{IsWished, assigned_pair}
 use Rattle.hn_own.specs.Lifetimes.{has_ended}
-use Rattle.hn_own.specs.Own.{PlainData}
 use Rattle.hn_own.specs.OwnPrefixes.{has_ended_one}
-use Rattle.hn_own.specs.declared.own_prefixes.OwnPrefix.{OwnPrefix}
-use Rattle.hn_store.specs.Nodes.{held}
 use Rattle.hn_store.specs.declared.stored.HeldNode.{HeldNode}
-use Rattle.hn_rules.specs.declared.arrival.passing.Passing.{Passing}
-use Rattle.hn_rules.specs.declared.done.Done.{Done}
-use Rattle.hn_rules.specs.declared.state.State.{State}
-use Rattle.hn_rules.specs.Assigning.{IsRunAssigned}
-use Rattle.hn_rules.specs.Nodes.{age_at, entry_of, view_of}
-use Rattle.hn_rules.specs.Passing.{after_passing}
-use Rattle.hn_rules.specs.Rested.{IsRested}
-use Rattle.hn_rules.specs.Router.{IsRouter}
-use Rattle.hn_rules.specs.Seen.{seen_by}
-use Rattle.hn_rules.specs.Still.{AreHeard, IsUneventful, at_moment}
-use Rattle.hn_rules.specs.Updates.{IsYoung, LeavesAges, RestfulTickLeavesAges}
-use Rattle.hn_router.specs.Act.{Happened, Tick}
-use Rattle.hn_router.specs.Laws.{MomentIsNow}
-use Rattle.hn_audit.specs.Heard.{IsSteady}
-use Rattle.hn_audit.specs.Lasting.{IsLastingUntil}
-use Rattle.hn_audit.specs.Quiet.{IsRouterAtRest}
-use Rattle.hn_audit.specs.Settled.{AreSame, UseSame}
+use Rattle.hn_rules.specs.Nodes.{age_at}
+use Rattle.hn_rules.specs.Updates.{LeavesAges, RestfulTickLeavesAges}
 use Rattle.hn_audit.proofs.BridgeUsed.{used_same}
 use Rattle.hn_audit.proofs.EqualInPlace.{same_back}
 use Rattle.hn_audit.proofs.RestsOnwards.{ran}

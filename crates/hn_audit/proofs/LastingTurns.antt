@@ -1,29 +1,11 @@
 -- A home that lasts until a moment is steady over turns until then.
-use Rattle.std.proofs.Common.{◌≡◌, ◌∙◌, ◌⊎◌, ◌<◌, ◌≤◌, ◌-◌, ◌+◌, ℕ, true, List, [], ◌∷◌, length, None, Some, slice_get, inl, inr, refl, sym, ap, subst, arith}
-use Rattle.std.specs.Prelude.{IsTrue}
-use Rattle.std.specs.List.{slice_set}
-use Rattle.std.proofs.lemmas.List.Elements.{All-contains}
-use Rattle.std.proofs.lemmas.Option.{same_Some, slice_get-get_or}
-use Rattle.hn_base.proofs.PartsAtPlaces.{contains_at}
-use Rattle.hn_rules.specs.declared.arrival.passing.Passing.{Passing}
-use Rattle.hn_rules.specs.declared.done.Note.{Note}
-use Rattle.hn_rules.specs.declared.state.State.{State}
-use Rattle.hn_world.specs.declared.copies.MailCopy.{MailCopy}
-use Rattle.hn_world.specs.declared.event.Traced.{Traced}
-use Rattle.hn_world.specs.declared.event.WEvent.{WEvent}
+use Rattle.hn_base.proofs.Names.{◌≡◌, ◌∙◌, ◌⊎◌, ◌<◌, ◌≤◌, ◌-◌, ◌+◌, ℕ, true, List, [], ◌∷◌, length, None, Some, slice_get, inl, inr, refl, sym, ap, subst, arith, All-contains, same_Some}
+use Rattle.hn_base.proofs.Names.{slice_get-get_or}
+use Rattle.hn_audit.proofs.Names.{IsTrue, slice_set, contains_at, Passing, Note, State, MailCopy, Traced, WEvent, Member, Parts, refusal, IsReplayed, IsSoundMember, Does, IsResting, origin_of}
+use Rattle.hn_audit.proofs.Names.{AreHeardSince, ArePeersLinked, AreSendsHeard, GoesInTurns, GoesLossless, HasTicked, IsCalmSince, IsLosslessEvent, IsSteady, IsLastingUntil, IsReached, IsRunning}
+use Rattle.hn_audit.proofs.Names.{UseSame, IsMemberAt, IsYoung}
 use Rattle.hn_world.specs.declared.event.WEvent.TheVariants as event
-use Rattle.hn_world.specs.declared.member.Member.{Member}
-use Rattle.hn_world.specs.declared.parts.Parts.{Parts}
-use Rattle.hn_world.specs.Refusal.{refusal}
-use Rattle.hn_world.specs.Replay.{IsReplayed, IsSoundMember}
-use Rattle.hn_world.specs.Step.{Does}
-use Rattle.hn_audit.specs.Calm.{IsResting, origin_of}
-use Rattle.hn_audit.specs.Heard.{AreHeardSince, ArePeersLinked, AreSendsHeard, GoesInTurns, GoesLossless, HasTicked, IsCalmSince, IsLosslessEvent, IsSteady}
-use Rattle.hn_audit.specs.Lasting.{GoesInTimelyTurns, GoesTimely, IsLastingHome, IsLastingUntil, IsTimelyEvent, LastingGoesInTurns, TicksAmong}
-use Rattle.hn_audit.specs.Reached.{IsReached, IsRunning}
-use Rattle.hn_audit.specs.Settled.{UseSame}
-use Rattle.hn_audit.specs.Staying.{IsMemberAt}
-use Rattle.hn_rules.specs.Updates.{IsYoung}
+use Rattle.hn_audit.specs.Lasting.{GoesInTimelyTurns, GoesTimely, IsLastingHome, IsTimelyEvent, LastingGoesInTurns, TicksAmong}
 use Rattle.hn_audit.proofs.AcceptedRuns.{receives_running, ticks_running}
 use Rattle.hn_audit.proofs.BridgeWorlds.{known_of}
 use Rattle.hn_audit.proofs.CalmDeliveries.{only_passing}

@@ -1,3 +1,4 @@
+mod Names
 mod TurnsOfTicks
 mod WhatAnyTells
 mod AcceptedRuns

@@ -1,12 +1,7 @@
 -- A world to which an event leads from a replayed one is a replay too.
-use Rattle.std.proofs.Common.{List, [], ◌∷◌, ◌++◌, refl, subst}
-use Rattle.hn_base.specs.declared.version.Version.{Version}
-use Rattle.hn_rules.specs.declared.done.Note.{Note}
-use Rattle.hn_world.specs.declared.event.Traced.{Traced}
-use Rattle.hn_world.specs.declared.parts.Parts.{Parts}
-use Rattle.hn_world.specs.Laws.{WorldHasItsTrace, WorldHasItsVersion}
-use Rattle.hn_world.specs.Replay.{Goes, Replays, IsReplayed}
-use Rattle.hn_world.specs.Step.{Step}
+use Rattle.hn_base.proofs.Names.{List, [], ◌∷◌, ◌++◌, refl, subst}
+use Rattle.hn_audit.proofs.Names.{Version, Note, Traced, Parts, WorldHasItsTrace, WorldHasItsVersion, Goes, IsReplayed, Step}
+use Rattle.hn_world.specs.Replay.{Replays}
 use Rattle.hn_audit.proofs.FrontWorlds.{replayed}
 
 goes_more : (ts : List Traced) (a b c : Parts) (t : Traced) (notes : List Note) → Goes a ts b → Step t notes b c → Goes a (ts ++ t ∷ []) c

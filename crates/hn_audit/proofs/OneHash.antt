@@ -1,27 +1,11 @@
 -- The routers of a settled home have one network state hash, and a router that is as others see it keeps its own.
-use Rattle.std.proofs.Common.{◌≡◌, ◌∙◌, ℕ, Bool, true, false, cond, List, [], ◌∷◌, map, Option, Some, None, Contains, inl, inr, refl, sym, ap, subst}
-use Rattle.std.specs.Prelude.{◌==◌, All}
-use Rattle.std.specs.List.{filter_map, cons_option}
-use Rattle.std.specs.Option.{option_map}
-use Rattle.std.proofs.lemmas.Bool.{cases_eq}
-use Rattle.std.proofs.lemmas.List.Elements.{All-head, All-tail, All-weaker, All-contains_itself}
-use Rattle.hn_base.proofs.Keys.{same_node}
-use Rattle.hn_base.specs.declared.ids.NodeId.{NodeId}
-use Rattle.hn_data.specs.declared.view.Entry.{Entry}
+use Rattle.hn_base.proofs.Names.{◌≡◌, ◌∙◌, ℕ, Bool, true, false, cond, List, [], ◌∷◌, map, Option, Some, None, Contains, inl, inr, refl, sym, ap, subst, ◌==◌, All, filter_map, cons_option, option_map}
+use Rattle.hn_base.proofs.Names.{cases_eq, All-head, All-tail, All-weaker, All-contains_itself}
+use Rattle.hn_audit.proofs.Names.{same_node, NodeId, Entry, PlainData, State, HashIsOfLeaves, held_entry, own_entry, entry_of, IsRouter, held, Stored, Member, Parts, IsReached, HoldsState}
 use Rattle.hn_hash.specs.declared.leaf.Leaf.{Leaf}
 use Rattle.hn_hash.specs.Network.{network_hash}
-use Rattle.hn_own.specs.Own.{PlainData}
-use Rattle.hn_rules.specs.declared.state.State.{State}
-use Rattle.hn_rules.specs.Laws.{HashIsOfLeaves}
-use Rattle.hn_rules.specs.Nodes.{held_entry, own_entry, entry_of, leaf_of, leaves_of}
-use Rattle.hn_rules.specs.Router.{IsRouter}
-use Rattle.hn_store.specs.Nodes.{held}
-use Rattle.hn_store.specs.declared.stored.Stored.{Stored}
-use Rattle.hn_world.specs.declared.member.Member.{Member}
-use Rattle.hn_world.specs.declared.parts.Parts.{Parts}
+use Rattle.hn_rules.specs.Nodes.{leaf_of, leaves_of}
 use Rattle.hn_audit.specs.Calm.{SettledHaveOneHash}
-use Rattle.hn_audit.specs.Reached.{IsReached}
-use Rattle.hn_audit.specs.Settled.{HoldsState}
 use Rattle.hn_audit.proofs.BridgeSets.{IsKnown, reach_is, member_of, one_member, router_of}
 use Rattle.hn_audit.proofs.BridgeWorlds.{WorldLaws, known_of}
 use Rattle.hn_audit.proofs.StayingSets.{IsStillAs}

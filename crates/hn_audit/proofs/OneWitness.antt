@@ -1,40 +1,14 @@
 -- The first witness is one.
-use Rattle.std.proofs.Common.{◌≡◌, ◌∙◌, ℕ, List, Option, Some, None, refl, sym, ap, subst, inl, inr, arith}
-use Rattle.std.specs.Cmp.{IsTotalOrder}
-use Rattle.std.proofs.lemmas.Cmp.{on_total, then_total, nat_cmp_total}
-use Rattle.std.proofs.lemmas.Option.{same_Some}
-use Rattle.hn_base.specs.Ascending.{HaveSame}
-use Rattle.hn_base.specs.declared.ids.NodeId.{NodeId}
-use Rattle.hn_base.specs.declared.name.Name.{Name}
-use Rattle.hn_base.proofs.AscendingLists.{ascending_unique}
-use Rattle.hn_base.proofs.AtKey.{has_one}
-use Rattle.hn_assign.specs.declared.assigned.Advertised.{Advertised}
-use Rattle.hn_assign.specs.declared.assigned.Assigned.{Assigned}
-use Rattle.hn_assign.specs.declared.assigned.Wish.{Wish}
+use Rattle.hn_base.proofs.Names.{◌≡◌, ◌∙◌, ℕ, List, Option, Some, None, refl, sym, ap, subst, inl, inr, arith, IsTotalOrder, on_total, then_total, nat_cmp_total, same_Some, HaveSame}
+use Rattle.hn_audit.proofs.Names.{NodeId, Name, ascending_unique, has_one, Advertised, Assigned, Wish, assigned_pair, pair_cmp, wish_pair, IsAtRest, PeerLink, UsableIsUnique, Delegated, AreAsked}
+use Rattle.hn_audit.proofs.Names.{seen_by, RestKnowsNoOrder, held, Attachment, Member, Parts, IsSoundWorld, Unquiet, Unsettled, FindsOne, IsFirstFound, OrElse, unheld_of, FindsAlike, FindsHeld}
+use Rattle.hn_audit.proofs.Names.{FindsId, FindsKnown, FindsReach, FindsUsed, IsFirstUnsettled, FindsNear, FindsOfPeers, FindsOnLinks, FindsStranger, FindsUnseen, FindsUntrue, act_of, FindsAct}
+use Rattle.hn_audit.proofs.Names.{FindsOfRouter, FindsRestless, FindsUnasked, IsFirstUnquiet, PlainSpot, set_of}
 use Rattle.hn_assign.specs.Laws.{SameHaveOneBest}
-use Rattle.hn_assign.specs.Pair.{IsAscending, assigned_pair, pair_cmp, wish_pair}
-use Rattle.hn_assign.specs.Rest.{IsAtRest}
+use Rattle.hn_assign.specs.Pair.{IsAscending}
 use Rattle.hn_data.specs.Peers.{peer_cmp}
-use Rattle.hn_data.specs.declared.said.PeerLink.{PeerLink}
-use Rattle.hn_deleg.specs.Laws.{UsableIsUnique}
-use Rattle.hn_deleg.specs.declared.delegated.Delegated.{Delegated}
-use Rattle.hn_rules.specs.Assigning.{AreAsked}
-use Rattle.hn_rules.specs.Seen.{seen_by}
-use Rattle.hn_sound.specs.Laws.{RestKnowsNoOrder}
-use Rattle.hn_store.specs.Nodes.{held}
-use Rattle.hn_world.specs.declared.member.Attachment.{Attachment}
-use Rattle.hn_world.specs.declared.member.Member.{Member}
-use Rattle.hn_world.specs.declared.parts.Parts.{Parts}
-use Rattle.hn_world.specs.Replay.{IsSoundWorld}
-use Rattle.hn_audit.specs.declared.witness.Unquiet.{Unquiet}
 use Rattle.hn_audit.specs.declared.witness.Unquiet.TheVariants as act
-use Rattle.hn_audit.specs.declared.witness.Unsettled.{Unsettled}
 use Rattle.hn_audit.specs.declared.witness.Unsettled.TheVariants as cause
-use Rattle.hn_audit.specs.First.{FindsOne, IsFirstFound, OrElse}
-use Rattle.hn_audit.specs.FirstWitness.{unheld_of, FindsAlike, FindsHeld, FindsId, FindsKnown, FindsReach, FindsUsed, IsFirstUnsettled}
-use Rattle.hn_audit.specs.FirstWitness.{FindsNear, FindsOfPeers, FindsOnLinks, FindsStranger, FindsUnseen, FindsUntrue}
-use Rattle.hn_audit.specs.FirstWitness.{act_of, FindsAct, FindsOfRouter, FindsRestless, FindsUnasked, IsFirstUnquiet}
-use Rattle.hn_audit.specs.Set.{PlainSpot, set_of}
 use Rattle.hn_audit.proofs.QuietSets.{router_of}
 use Rattle.hn_audit.proofs.RestIsOne.{one_wishes}
 use Rattle.hn_audit.proofs.Searching.{Agree, first_agrees, leaf_is_one, or_else_agrees}

@@ -1,20 +1,12 @@
 -- A set is quiet if and only if the assignment subroutine, run anew, comes to something on each of its routers and changes
 -- nothing. And the router of a name runs.
-use Rattle.std.proofs.Common.{◌≡◌, ◌↔◌, ℕ, Bool, true, false, not, IsTrue, IfSome, List, Option, Some, None, is_some, All, refl, sym, subst}
-use Rattle.std.specs.Option.{option_map_or}
-use Rattle.std.proofs.lemmas.List.Elements.{All-contains, All-nil}
-use Rattle.hn_rules.specs.Router.{IsRouter}
-use Rattle.hn_world.specs.declared.member.Member.{Member}
-use Rattle.hn_world.specs.declared.parts.Parts.{Parts}
-use Rattle.hn_world.specs.Names.{is_named, member_named}
-use Rattle.hn_world.specs.Replay.{IsSoundWorld, IsSoundMember}
+use Rattle.hn_base.proofs.Names.{◌≡◌, ◌↔◌, ℕ, Bool, true, false, not, IsTrue, IfSome, List, Option, Some, None, is_some, refl, sym, subst, option_map_or, All-contains, All-nil}
+use Rattle.hn_audit.proofs.Names.{All, IsRouter, Member, Parts, is_named, IsSoundWorld, IsSoundMember, AnewHasARun, RestHasARun, WitnessNamesRestless, IsQuiet, IsRunning, IsReached, Disturbs, Unquiet}
+use Rattle.hn_audit.proofs.Names.{found_passes}
+use Rattle.hn_world.specs.Names.{member_named}
 use Rattle.hn_audit.specs.Fixed.{ChangesNothing, IsFixed, MayChangeNothing, SomeActs}
-use Rattle.hn_audit.specs.Laws.{AnewHasARun, HasRestless, RestKeepsAssignments, RestHasARun, UnchangedIsAtRest, WitnessNamesRestless}
-use Rattle.hn_audit.specs.Quiet.{IsQuiet}
-use Rattle.hn_audit.specs.Reached.{runs, IsRunning, IsReached}
-use Rattle.hn_audit.specs.Witness.{Disturbs}
-use Rattle.hn_audit.specs.declared.witness.Unquiet.{Unquiet}
-use Rattle.hn_base.proofs.Elements.{found_passes}
+use Rattle.hn_audit.specs.Laws.{HasRestless, RestKeepsAssignments, UnchangedIsAtRest}
+use Rattle.hn_audit.specs.Reached.{runs}
 
 -- a router of a sound world
 pub router_of : (w : Parts) (r s : Member) → IsSoundWorld w → IsReached w r s → IsRouter s.router

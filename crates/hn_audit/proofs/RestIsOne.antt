@@ -1,25 +1,7 @@
 -- Routers at rest: their lists and their wishes are one.
-use Rattle.std.proofs.Common.{◌≡◌, List, All, subst}
-use Rattle.std.specs.Cmp.{IsTotalOrder}
-use Rattle.std.specs.Ordering.{on}
-use Rattle.std.proofs.lemmas.Cmp.{on_total}
-use Rattle.hn_base.proofs.AscendingLists.{ascending_unique}
-use Rattle.hn_base.specs.Ascending.{HaveSame}
-use Rattle.hn_data.specs.View.{PlainView}
-use Rattle.hn_assign.specs.declared.assigned.Advertised.{Advertised}
-use Rattle.hn_assign.specs.declared.assigned.Assigned.{Assigned}
-use Rattle.hn_assign.specs.declared.assigned.Wish.{Wish}
-use Rattle.hn_assign.specs.Fixed.{AreAtRest}
-use Rattle.hn_assign.specs.Gathered.{AreAdvertised}
-use Rattle.hn_assign.specs.Pair.{IsWished, assigned_pair, pair_cmp, wish_pair}
-use Rattle.hn_deleg.specs.declared.delegated.Delegated.{Delegated}
-use Rattle.hn_deleg.specs.Used.{AreUsable}
-use Rattle.hn_deleg.specs.Laws.{UsableIsUnique}
-use Rattle.hn_rules.specs.declared.state.State.{State}
-use Rattle.hn_rules.specs.Assigning.{AreAsked}
-use Rattle.hn_rules.specs.Seen.{seen_by}
-use Rattle.hn_sound.specs.Laws.{RestKnowsNoOrder}
-use Rattle.hn_audit.specs.Quiet.{IsRouterAtRest}
+use Rattle.hn_base.proofs.Names.{◌≡◌, List, subst, IsTotalOrder, on, on_total, HaveSame}
+use Rattle.hn_audit.proofs.Names.{All, ascending_unique, PlainView, Advertised, Assigned, Wish, AreAtRest, AreAdvertised, IsWished, assigned_pair, pair_cmp, wish_pair, Delegated, AreUsable}
+use Rattle.hn_audit.proofs.Names.{UsableIsUnique, State, AreAsked, seen_by, RestKnowsNoOrder, IsRouterAtRest}
 
 -- the same advertised prefixes in another order
 pub advertised_same : (view : PlainView) (assigned : List Assigned) (a b : List Advertised) → HaveSame a b → AreAdvertised view assigned b → AreAdvertised view assigned a

@@ -1,22 +1,7 @@
 -- A router at rest that lets an arrival pass is at rest after it.
-use Rattle.std.proofs.Common.{◌≡◌, ◌≤◌, ◌++◌, ℕ, List, Contains, sym, ap, subst}
-use Rattle.hn_base.specs.declared.ids.EpId.{EpId}
-use Rattle.hn_data.specs.Later.{IsLater}
-use Rattle.hn_data.specs.View.{PlainView}
-use Rattle.hn_deleg.specs.Laws.{UsableIsUnique}
-use Rattle.hn_link.specs.Laws.{CommonLinkOfLater}
-use Rattle.hn_assign.specs.Laws.{AdvertisedOfLater}
-use Rattle.hn_own.specs.Ports.{endpoints_of}
-use Rattle.hn_own.specs.Posts.{posts_of, private_posts}
-use Rattle.hn_rules.specs.declared.arrival.passing.Passing.{Passing}
-use Rattle.hn_rules.specs.declared.state.State.{State}
-use Rattle.hn_rules.specs.Assigning.{AreAsked}
-use Rattle.hn_rules.specs.Passing.{after_passing}
-use Rattle.hn_rules.specs.Rested.{ViewOfLater}
-use Rattle.hn_rules.specs.Router.{IsRouter}
-use Rattle.hn_rules.specs.Seen.{seen_by}
-use Rattle.hn_audit.specs.Quiet.{IsRouterAtRest}
-use Rattle.hn_audit.specs.Settled.{AreSame, UseSame}
+use Rattle.hn_base.proofs.Names.{◌≡◌, ◌≤◌, ◌++◌, ℕ, List, Contains, sym, ap, subst}
+use Rattle.hn_audit.proofs.Names.{EpId, IsLater, PlainView, UsableIsUnique, CommonLinkOfLater, AdvertisedOfLater, endpoints_of, posts_of, private_posts, Passing, State, AreAsked, after_passing}
+use Rattle.hn_audit.proofs.Names.{ViewOfLater, IsRouter, seen_by, IsRouterAtRest, AreSame, UseSame}
 use Rattle.hn_audit.proofs.BridgeUsed.{used_same}
 use Rattle.hn_audit.proofs.EqualInPlace.{same_back}
 use Rattle.hn_audit.proofs.StayingRests.{GoOn, same_wish}

@@ -1,26 +1,11 @@
 -- A home whose peers were heard goes on resting over steady events.
-use Rattle.std.proofs.Common.{◌≡◌, ◌∙◌, ◌⊎◌, ◌≤◌, ◌-◌, ℕ, true, List, [], ◌∷◌, length, Some, None, Contains, slice_get, inl, inr, refl, sym, ap, subst, arith}
-use Rattle.std.specs.List.{slice_set}
-use Rattle.std.proofs.lemmas.List.Elements.{All-contains}
-use Rattle.std.proofs.lemmas.Option.{same_Some, slice_get-get_or, slice_get_within}
-use Rattle.hn_base.proofs.PartsAtPlaces.{contains_at}
-use Rattle.hn_base.specs.declared.ids.NodeId.{NodeId}
-use Rattle.hn_dncp.specs.declared.peers.Neighbour.{Neighbour}
-use Rattle.hn_rules.specs.declared.done.Note.{Note}
-use Rattle.hn_rules.specs.declared.state.State.{State}
-use Rattle.hn_rules.specs.Updates.{OwnIntervalIsDefault, RestfulTickMovesPorts}
-use Rattle.hn_world.specs.declared.event.Traced.{Traced}
-use Rattle.hn_world.specs.declared.event.WEvent.{WEvent}
+use Rattle.hn_base.proofs.Names.{◌≡◌, ◌∙◌, ◌⊎◌, ◌≤◌, ◌-◌, ℕ, true, List, [], ◌∷◌, length, Some, None, Contains, slice_get, inl, inr, refl, sym, ap, subst, arith, All-contains, same_Some}
+use Rattle.hn_base.proofs.Names.{slice_get-get_or, slice_get_within}
+use Rattle.hn_audit.proofs.Names.{slice_set, contains_at, NodeId, Neighbour, Note, State, OwnIntervalIsDefault, Traced, WEvent, Member, Parts, refusal, IsReplayed, IsSoundMember, Does, Step}
+use Rattle.hn_audit.proofs.Names.{AreCurrent, IsCalmArrival, IsResting, IsRestfulEvent, AreHeardSince, IsSteadyEvent, IsReached, IsMemberAt, IsRestful}
+use Rattle.hn_rules.specs.Updates.{RestfulTickMovesPorts}
 use Rattle.hn_world.specs.declared.event.WEvent.TheVariants as event
-use Rattle.hn_world.specs.declared.member.Member.{Member}
-use Rattle.hn_world.specs.declared.parts.Parts.{Parts}
-use Rattle.hn_world.specs.Refusal.{refusal}
-use Rattle.hn_world.specs.Replay.{IsReplayed, IsSoundMember}
-use Rattle.hn_world.specs.Step.{Does, Step}
-use Rattle.hn_audit.specs.Calm.{AreCurrent, IsCalmArrival, IsResting, IsRestfulEvent}
-use Rattle.hn_audit.specs.Heard.{AreHeardSince, IsSteadyEvent, GoesSteadily, RestLastsWhileHeard}
-use Rattle.hn_audit.specs.Reached.{IsReached}
-use Rattle.hn_audit.specs.Staying.{IsMemberAt, IsRestful}
+use Rattle.hn_audit.specs.Heard.{GoesSteadily, RestLastsWhileHeard}
 use Rattle.hn_audit.proofs.AcceptedRuns.{time_goes_on}
 use Rattle.hn_audit.proofs.BridgeWorlds.{known_of}
 use Rattle.hn_audit.proofs.CalmDeliveries.{passed}

@@ -1,46 +1,16 @@
 -- A settled and quiet router goes on resting over restful events.
-use Rattle.std.proofs.Common.{◌≡◌, ◌∙◌, ◌⊎◌, ◌<◌, ◌≤◌, ◌-◌, ◌^◌, ◌↔◌, ℕ, zero, suc, Bool, true, false, List}
-use Rattle.std.proofs.Common.{[], ◌∷◌, ◌++◌, length, Some, None, Contains, slice_get, inl, inr, refl, sym, ap, subst, arith}
-use Rattle.std.specs.Prelude.{All, IsTrue}
-use Rattle.std.specs.List.{find, slice_set}
-use Rattle.std.specs.Option.{option_map}
-use Rattle.std.proofs.lemmas.Bool.{cases_eq}
-use Rattle.std.proofs.lemmas.List.Elements.{All-contains}
-use Rattle.std.proofs.lemmas.Option.{same_Some, slice_get_within}
-use Rattle.hn_base.proofs.AscendingLists.{nothing_in}
-use Rattle.hn_base.proofs.PartsAtPlaces.{contains_at}
-use Rattle.hn_base.specs.declared.name.Name.{Name}
-use Rattle.hn_own.specs.Ports.{ArePorts, endpoints_of}
-use Rattle.hn_assign.specs.Fixed.{AreAssignmentsUnchanged}
+use Rattle.hn_base.proofs.Names.{◌≡◌, ◌∙◌, ◌⊎◌, ◌<◌, ◌≤◌, ◌-◌, ◌^◌, ◌↔◌, ℕ, zero, suc, Bool, true, false, List, [], ◌∷◌, ◌++◌, length, Some, None, Contains, slice_get, inl, inr, refl, sym, ap, subst}
+use Rattle.hn_base.proofs.Names.{arith, All, option_map, cases_eq, All-contains, same_Some, slice_get_within}
+use Rattle.hn_audit.proofs.Names.{IsTrue, slice_set, nothing_in, contains_at, Name, ArePorts, endpoints_of, AreAssignmentsUnchanged, Done, Note, Outgoing, State, HashIsOfLeaves, IsRouter, Running}
+use Rattle.hn_audit.proofs.Names.{begun_at, IsTick, IsStatusSend, Tick, MailCopy, Traced, WEvent, Attachment, Member, Parts, copies_of, is_of, refusal, IsReplayed, IsSoundMember, Does, Step}
+use Rattle.hn_audit.proofs.Names.{IsCurrent, AreCurrent, IsCalmArrival, IsResting, IsRestfulEvent, IsQuiet, IsRunning, IsReached, IsSettled, IsMemberAt, KeepAssignments}
+use Rattle.std.specs.List.{find}
 use Rattle.hn_typed.specs.Fields.{IsHash}
-use Rattle.hn_rules.specs.declared.done.Done.{Done}
-use Rattle.hn_rules.specs.declared.done.Note.{Note}
-use Rattle.hn_rules.specs.declared.done.Outgoing.{Outgoing}
-use Rattle.hn_rules.specs.declared.state.State.{State}
-use Rattle.hn_rules.specs.Laws.{HashIsOfLeaves, RouterIsHashed}
-use Rattle.hn_rules.specs.Router.{IsRouter}
-use Rattle.hn_rules.specs.declared.running.Running.{Running}
-use Rattle.hn_rules.specs.Rules.{begun_at}
-use Rattle.hn_rules.specs.Ticks.{IsTick}
-use Rattle.hn_rules.specs.Updates.{IsStatusSend, TicksSendUpdates}
-use Rattle.hn_router.specs.Act.{Tick, Happened}
-use Rattle.hn_world.specs.declared.copies.MailCopy.{MailCopy}
-use Rattle.hn_world.specs.declared.event.Traced.{Traced}
-use Rattle.hn_world.specs.declared.event.WEvent.{WEvent}
+use Rattle.hn_rules.specs.Laws.{RouterIsHashed}
+use Rattle.hn_rules.specs.Updates.{TicksSendUpdates}
+use Rattle.hn_router.specs.Act.{Happened}
 use Rattle.hn_world.specs.declared.event.WEvent.TheVariants as event
-use Rattle.hn_world.specs.declared.member.Attachment.{Attachment}
-use Rattle.hn_world.specs.declared.member.Member.{Member}
-use Rattle.hn_world.specs.declared.parts.Parts.{Parts}
-use Rattle.hn_world.specs.Mail.{copies_of}
-use Rattle.hn_world.specs.Names.{is_of}
-use Rattle.hn_world.specs.Refusal.{refusal}
-use Rattle.hn_world.specs.Replay.{IsReplayed, IsSoundMember}
-use Rattle.hn_world.specs.Step.{Does, Step}
-use Rattle.hn_audit.specs.Calm.{IsCurrent, AreCurrent, IsCalmArrival, IsResting, IsRestfulEvent, RestGoesOn, GoesRestfully, RestLasts}
-use Rattle.hn_audit.specs.Quiet.{IsQuiet}
-use Rattle.hn_audit.specs.Reached.{IsRunning, IsReached}
-use Rattle.hn_audit.specs.Settled.{IsSettled}
-use Rattle.hn_audit.specs.Staying.{IsMemberAt, KeepAssignments}
+use Rattle.hn_audit.specs.Calm.{RestGoesOn, GoesRestfully, RestLasts}
 use Rattle.hn_audit.proofs.AcceptedRuns.{ticks_running, receives_running}
 use Rattle.hn_audit.proofs.BridgeSets.{IsKnown, itself, router_of}
 use Rattle.hn_audit.proofs.BridgeWorlds.{known_of}

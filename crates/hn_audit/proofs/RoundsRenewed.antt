@@ -1,52 +1,19 @@
 -- A round without loss renews the contacts of peers.
-use Rattle.std.proofs.Common.{◌≡◌, ◌≢◌, ◌∙◌, ◌⊎◌, ◌<◌, ◌≤◌, ◌-◌, ◌^◌, ◌↔◌, ℕ, Bool, not, true, false, List}
-use Rattle.std.proofs.Common.{[], ◌∷◌, ◌++◌, length, map, Option, Some, Contains, slice_get, inl, inr, refl, sym, ap, subst, arith}
-use Rattle.std.specs.List.{find, slice_set}
-use Rattle.std.specs.Prelude.{◌||◌}
-use Rattle.std.specs.Option.{option_map, option_map_or}
-use Rattle.std.proofs.lemmas.Bool.{cases_eq}
-use Rattle.std.proofs.lemmas.List.Elements.{All-contains}
-use Rattle.std.proofs.lemmas.Option.{same_Some, slice_get-get_or, slice_get_within}
-use Rattle.hn_base.proofs.AscendingLists.{Contains-map, Contains-from_map}
-use Rattle.hn_base.proofs.PartsAtPlaces.{contains_at}
-use Rattle.hn_base.specs.declared.ids.EpId.{EpId}
-use Rattle.hn_base.specs.declared.ids.NodeId.{NodeId}
-use Rattle.hn_tlv.specs.Laws.{ListIsUnique}
-use Rattle.hn_typed.specs.Laws.{ItemIsUnique}
-use Rattle.hn_dncp.specs.declared.peers.Neighbour.{Neighbour}
-use Rattle.hn_dncp.specs.declared.port.Port.{Port}
-use Rattle.hn_own.specs.Ports.{port_at, endpoints_of, is_attached}
-use Rattle.hn_rules.specs.declared.arrival.passing.Passing.{Passing}
-use Rattle.hn_rules.specs.declared.done.Done.{Done}
-use Rattle.hn_rules.specs.declared.done.Note.{Note}
-use Rattle.hn_rules.specs.declared.done.Outgoing.{Outgoing}
-use Rattle.hn_rules.specs.declared.state.State.{State}
-use Rattle.hn_rules.specs.Passing.{after_passing, IsStatusUpdate}
+use Rattle.hn_base.proofs.Names.{◌≡◌, ◌≢◌, ◌∙◌, ◌⊎◌, ◌<◌, ◌≤◌, ◌-◌, ◌^◌, ◌↔◌, ℕ, Bool, not, true, false, List, [], ◌∷◌, ◌++◌, length, map, Option, Some, Contains, slice_get, inl, inr, refl, sym, ap}
+use Rattle.hn_base.proofs.Names.{subst, arith, ◌||◌, option_map, option_map_or, cases_eq, All-contains, same_Some, slice_get-get_or, slice_get_within}
+use Rattle.hn_audit.proofs.Names.{slice_set, Contains-map, Contains-from_map, contains_at, EpId, NodeId, ListIsUnique, ItemIsUnique, Neighbour, Port, port_at, endpoints_of, is_attached, Passing, Done}
+use Rattle.hn_audit.proofs.Names.{Note, Outgoing, State, after_passing, IsStatusUpdate, IsStatusSend, MailCopy, Target, Traced, WEvent, Attachment, Member, Parts, copies_of, is_of, IsReplayed}
+use Rattle.hn_audit.proofs.Names.{IsSoundMember, IsAttachedMember, Does, Step, origin_of, IsResting, IsRestfulEvent, AreHeardSince, IsSteadyEvent, ArePeersLinked, AreSendsHeard, IsLosslessEvent}
+use Rattle.hn_audit.proofs.Names.{GoesLossless, AreDelivered, IsRunning, IsReached, IsOnLink, AreOnOneLink, IsMemberAt, IsRestful, KeepAssignments, IsQuiet, IsSettled, AreAssignmentsUnchanged, Name}
+use Rattle.std.specs.List.{find}
 use Rattle.hn_rules.specs.Router.{IsPortPast}
-use Rattle.hn_rules.specs.Updates.{HasMoved, IsStatusSend, PeersAreAttached}
-use Rattle.hn_world.specs.declared.copies.MailCopy.{MailCopy}
-use Rattle.hn_world.specs.declared.copies.Target.{Target}
-use Rattle.hn_world.specs.declared.event.Traced.{Traced}
-use Rattle.hn_world.specs.declared.event.WEvent.{WEvent}
+use Rattle.hn_rules.specs.Updates.{HasMoved, PeersAreAttached}
 use Rattle.hn_world.specs.declared.event.WEvent.TheVariants as event
-use Rattle.hn_world.specs.declared.member.Attachment.{Attachment}
-use Rattle.hn_world.specs.declared.member.Member.{Member}
-use Rattle.hn_world.specs.declared.parts.Parts.{Parts}
-use Rattle.hn_world.specs.Mail.{copies_of}
-use Rattle.hn_world.specs.Names.{is_of}
 use Rattle.hn_world.specs.Receivers.{is_absent, is_away}
-use Rattle.hn_world.specs.Replay.{IsReplayed, IsSoundMember, IsAttachedMember}
-use Rattle.hn_world.specs.Step.{Does, Step}
-use Rattle.hn_audit.specs.Calm.{origin_of, AreWaitingCurrent, IsResting, IsRestfulEvent}
-use Rattle.hn_audit.specs.Heard.{AreHeardSince, IsSteadyEvent, ArePeersLinked, IsUnderWay, AreSendsHeard, IsLosslessEvent, GoesLossless, AreDelivered, RoundRenews, GoesInRounds, RestGoesInRounds}
-use Rattle.hn_audit.specs.Reached.{IsRunning, IsReached, IsOnLink, AreOnOneLink}
-use Rattle.hn_audit.specs.Staying.{IsMemberAt, IsRestful, KeepAssignments}
-use Rattle.hn_audit.specs.Quiet.{IsQuiet}
-use Rattle.hn_audit.specs.Settled.{IsSettled}
-use Rattle.hn_assign.specs.Fixed.{AreAssignmentsUnchanged}
+use Rattle.hn_audit.specs.Calm.{AreWaitingCurrent}
+use Rattle.hn_audit.specs.Heard.{IsUnderWay, RoundRenews, GoesInRounds, RestGoesInRounds}
 use Rattle.hn_audit.proofs.BridgeSets.{IsKnown, router_of}
 use Rattle.hn_audit.proofs.CalmDeliveries.{IsPassed, passed}
-use Rattle.hn_base.specs.declared.name.Name.{Name}
 use Rattle.hn_audit.proofs.BridgeWorlds.{known_of}
 use Rattle.hn_audit.proofs.RestsHeard.{HeardLaws, GoesHeard, HearOn, one_heard, restful_by, hears_by}
 use Rattle.hn_audit.proofs.RestsOnwards.{GoesOn, ran, status_sends, nothing_goes, both_go}

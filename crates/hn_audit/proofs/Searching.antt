@@ -1,16 +1,8 @@
 -- What a loop over a list finds first, and that what is found first is one.
-use Rattle.std.proofs.Common.{◌≡◌, ◌∙◌, ◌↔◌, ℕ, ◌+◌, ◌<◌, ◌≤◌, Bool, true, false, not, IsTrue, Option, Some, None, is_some, refl, sym, ap, subst, inl, inr, arith}
-use Rattle.std.proofs.Common.{List, All, Contains, length, take, get_or, slice_get, map}
-use Rattle.std.specs.Borrow.{Bor}
-use Rattle.std.proofs.lemmas.Bool.{cases_lt}
-use Rattle.std.proofs.lemmas.List.{get_or-take, length-take, take-map, take_all}
-use Rattle.std.proofs.lemmas.List.Elements.{All-contains, All-map, All-more}
-use Rattle.std.proofs.lemmas.Option.{get_or_from_slice_get, same_Some, slice_get-get_or, slice_get_within}
-use Rattle.hn_base.proofs.PartsAtPlaces.{contains_at, part_stands}
-use Rattle.hn_world.specs.declared.member.Member.{Member}
-use Rattle.hn_audit.specs.declared.spots.Spot.{Spot}
-use Rattle.hn_audit.specs.First.{FindsOne, IsFirstFound, OrElse}
-use Rattle.hn_audit.specs.Set.{PlainSpot, members_of, plain_spot, plain_spots}
+use Rattle.hn_base.proofs.Names.{◌≡◌, ◌∙◌, ◌↔◌, ℕ, ◌+◌, ◌<◌, ◌≤◌, Bool, true, false, not, IsTrue, Option, Some, None, is_some, refl, sym, ap, subst, inl, inr, arith, List, Contains, length, take}
+use Rattle.hn_base.proofs.Names.{get_or, slice_get, map, Bor, cases_lt, get_or-take, length-take, take-map, take_all, All-contains, All-map, All-more, get_or_from_slice_get, same_Some}
+use Rattle.hn_base.proofs.Names.{slice_get-get_or, slice_get_within}
+use Rattle.hn_audit.proofs.Names.{All, contains_at, part_stands, Member, Spot, FindsOne, IsFirstFound, OrElse, PlainSpot, members_of, plain_spot, plain_spots}
 
 -- ---- as a loop goes over a list
 

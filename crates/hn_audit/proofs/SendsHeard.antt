@@ -1,37 +1,14 @@
 -- What was sent is heard, where nothing is lost.
-use Rattle.std.proofs.Common.{◌≡◌, ◌≢◌, ◌∙◌, ◌⊎◌, ◌+◌, ℕ, zero, suc, Bool, true, false, cond, not, List, []}
-use Rattle.std.proofs.Common.{◌∷◌, ◌++◌, filter, Option, Some, None, Contains, slice_get, inl, inr, refl, sym, ap, subst, arith}
-use Rattle.std.specs.Prelude.{◌==◌, ◌&&◌, is_some, IsTrue}
-use Rattle.std.specs.Option.{option_map_or}
-use Rattle.std.proofs.lemmas.Bool.{eq-eqb, ne_eqb, eqb-true, and_from}
-use Rattle.std.proofs.lemmas.List.Elements.{Contains-append_left, Contains-append_right}
-use Rattle.std.proofs.lemmas.Option.{same_Some, slice_get-get_or}
-use Rattle.hn_base.proofs.AscendingLists.{Contains-map, Contains-from_map}
-use Rattle.hn_base.proofs.Elements.{found_passes, in_filter}
-use Rattle.hn_base.proofs.Keys.{same_id, same_node}
-use Rattle.hn_base.specs.declared.addr.Addr.{Addr}
-use Rattle.hn_base.specs.declared.ids.EpId.{EpId}
-use Rattle.hn_base.specs.declared.ids.NodeId.{NodeId}
+use Rattle.hn_base.proofs.Names.{◌≡◌, ◌≢◌, ◌∙◌, ◌⊎◌, ◌+◌, ℕ, zero, suc, Bool, true, false, cond, not, List, [], ◌∷◌, ◌++◌, filter, Option, Some, None, Contains, slice_get, inl, inr, refl, sym, ap}
+use Rattle.hn_base.proofs.Names.{subst, arith, ◌==◌, ◌&&◌, option_map_or, eq-eqb, ne_eqb, eqb-true, and_from, Contains-append_left, Contains-append_right, same_Some, slice_get-get_or}
+use Rattle.hn_audit.proofs.Names.{IsTrue, Contains-map, Contains-from_map, found_passes, in_filter, same_id, same_node, Addr, EpId, NodeId, ListIsUnique, PlainItem, ItemIsUnique, contacted, hashed}
+use Rattle.hn_audit.proofs.Names.{is_peer, Neighbour, Port, is_port, port_at, put_port, endpoints_of, Outgoing, State, IsStatusUpdate, MailCopy, Target, Member, on_link_at, on_link, gets, copy_for}
+use Rattle.hn_audit.proofs.Names.{copies_on, copies_of_send, copies_of, is_on, IsOnLink}
+use Rattle.std.specs.Prelude.{is_some}
 use Rattle.hn_tlv.specs.Grammar.{PlainTlv}
-use Rattle.hn_tlv.specs.Laws.{ListIsUnique}
-use Rattle.hn_typed.specs.Item.{PlainItem}
 use Rattle.hn_typed.specs.Item as item
-use Rattle.hn_typed.specs.Laws.{ItemIsUnique}
 use Rattle.hn_typed.specs.Table.{IsItem}
-use Rattle.hn_dncp.specs.Hash.{contacted, hashed}
-use Rattle.hn_dncp.specs.Peers.{is_peer}
-use Rattle.hn_dncp.specs.declared.peers.Neighbour.{Neighbour}
-use Rattle.hn_dncp.specs.declared.port.Port.{Port}
-use Rattle.hn_own.specs.Ports.{is_port, port_at, put_port, endpoints_of}
-use Rattle.hn_rules.specs.declared.done.Outgoing.{Outgoing}
-use Rattle.hn_rules.specs.declared.state.State.{State}
-use Rattle.hn_rules.specs.Passing.{IsStatusUpdate}
-use Rattle.hn_world.specs.declared.copies.MailCopy.{MailCopy}
-use Rattle.hn_world.specs.declared.copies.Target.{Target}
-use Rattle.hn_world.specs.declared.member.Member.{Member}
-use Rattle.hn_world.specs.Mail.{on_link_at, on_link, is_same, gets, copy_for, copies_on, copies_of_send, copies_of}
-use Rattle.hn_world.specs.Names.{is_on}
-use Rattle.hn_audit.specs.Reached.{IsOnLink}
+use Rattle.hn_world.specs.Mail.{is_same}
 use Rattle.hn_audit.proofs.ElementsOfLists.{in_flat_map}
 use Rattle.hn_audit.proofs.HeardOnwards.{put_apart}
 

@@ -1,15 +1,6 @@
 -- The list of a set has those that are reached.
-use Rattle.std.proofs.Common.{◌≡◌, ◌↔◌, Bool, true, IsTrue, ◌&&◌, ◌==◌, List, All, Contains, refl, subst}
-use Rattle.std.specs.List.{list_any}
-use Rattle.std.proofs.lemmas.Bool.{eqb-true, eq-eqb, and_parts}
-use Rattle.std.proofs.lemmas.List.Elements.{All-contains}
-use Rattle.hn_base.specs.declared.ids.NodeId.{NodeId}
-use Rattle.hn_base.proofs.Keys.{same_node}
-use Rattle.hn_world.specs.declared.member.Member.{Member}
-use Rattle.hn_world.specs.declared.parts.Parts.{Parts}
-use Rattle.hn_audit.specs.Reached.{IsReached}
-use Rattle.hn_audit.specs.Set.{is_in_set, set_of}
-use Rattle.hn_base.proofs.Elements.{all_of, any_from, any_of, in_filter, from_filter}
+use Rattle.hn_base.proofs.Names.{◌≡◌, ◌↔◌, Bool, true, IsTrue, List, Contains, refl, subst, list_any, eqb-true, eq-eqb, and_parts, All-contains}
+use Rattle.hn_audit.proofs.Names.{◌&&◌, ◌==◌, All, NodeId, same_node, Member, Parts, IsReached, is_in_set, set_of, all_of, any_from, any_of, in_filter, from_filter}
 
 and_true : (a b : Bool) → a ≡ true → b ≡ true → (a && b) ≡ true
 and_true a b e f = rw (e, f) refl

@@ -1,23 +1,12 @@
 -- The attached endpoints of a set, and what is found of them.
-use Rattle.std.proofs.Common.{◌≡◌, ◌↔◌, ◌<◌, ℕ, ◌+◌, List, [], ◌∷◌, ◌++◌, All, Contains, Option, Some, None, length, take, get_or, find, refl, sym, ◌∙◌, ap, subst, append_assoc, inl, inr}
-use Rattle.std.specs.List.{filter_map}
-use Rattle.std.specs.Option.{option_map}
-use Rattle.std.proofs.lemmas.Bool.{cases_Bool, eqb-true, false≢true}
-use Rattle.std.proofs.lemmas.List.Elements.{All-contains}
-use Rattle.hn_base.specs.declared.ids.EpId.{EpId}
-use Rattle.hn_base.proofs.Keys.{same_id}
-use Rattle.hn_data.specs.Peers.{HasPeer, peer_link}
-use Rattle.hn_data.specs.declared.said.PeerLink.{PeerLink}
-use Rattle.hn_world.specs.declared.member.Attachment.{Attachment}
-use Rattle.hn_world.specs.declared.member.Member.{Member}
-use Rattle.hn_world.specs.declared.parts.Parts.{Parts}
-use Rattle.hn_world.specs.Names.{is_of, link_of}
-use Rattle.hn_audit.specs.First.{IsFirstFound}
-use Rattle.hn_audit.specs.FirstWitness.{FindsNear, FindsOfPeers, FindsStranger, FindsUnseen, IsSeenPair, IsTrueOf, RunsOutside}
-use Rattle.hn_audit.specs.Reached.{IsRunning, IsReached, IsOnLink, AreOnOneLink}
-use Rattle.hn_audit.specs.Set.{PlainSpot, is_in_set, set_of, spot_at, spots_at, spots_in}
-use Rattle.hn_audit.specs.Settled.{AreLinked, IsSameEndpoint}
-use Rattle.hn_base.proofs.Elements.{given_next, in_filter_map, from_filter_map, passed_next, found_passes}
+use Rattle.hn_base.proofs.Names.{◌≡◌, ◌↔◌, ◌<◌, ℕ, ◌+◌, List, [], ◌∷◌, ◌++◌, Contains, Option, Some, None, length, take, get_or, refl, sym, ◌∙◌, ap, subst, append_assoc, inl, inr, filter_map}
+use Rattle.hn_base.proofs.Names.{option_map, cases_Bool, eqb-true, false≢true, All-contains}
+use Rattle.hn_audit.proofs.Names.{All, find, EpId, same_id, HasPeer, peer_link, PeerLink, Attachment, Member, Parts, is_of, link_of, IsFirstFound, FindsNear, FindsOfPeers, FindsStranger, FindsUnseen}
+use Rattle.hn_audit.proofs.Names.{IsSeenPair, IsTrueOf, IsRunning, IsReached, IsOnLink, AreOnOneLink, PlainSpot, is_in_set, set_of, spot_at, spots_in, AreLinked, IsSameEndpoint, in_filter_map}
+use Rattle.hn_audit.proofs.Names.{from_filter_map, found_passes}
+use Rattle.hn_audit.specs.FirstWitness.{RunsOutside}
+use Rattle.hn_audit.specs.Set.{spots_at}
+use Rattle.hn_base.proofs.Elements.{given_next, passed_next}
 use Rattle.hn_audit.proofs.ElementsOfLists.{in_flat_map, from_flat_map}
 use Rattle.hn_audit.proofs.Settling.{set_has, in_set}
 

@@ -1,44 +1,12 @@
 -- A router at rest whose tick nothing disturbs is at rest after it.
-use Rattle.std.proofs.Common.{◌≡◌, ◌∙◌, ◌-◌, ◌≤◌, ℕ, Bool, not, cond, List, [], ◌∷◌, ◌++◌, All, Contains, map, Option, Some, refl, sym, ap, subst}
-use Rattle.std.specs.Prelude.{◌==◌}
-use Rattle.std.specs.List.{filter_map, cons_option, slice_get}
-use Rattle.std.specs.Option.{option_map}
-use Rattle.std.proofs.lemmas.List.Elements.{All-contains, All-head, All-tail, All-contains_itself, All-weaker}
-use Rattle.hn_base.proofs.AscendingLists.{Contains-from_map, Contains-map}
-use Rattle.hn_base.proofs.Elements.{all_of}
-use Rattle.hn_base.specs.Prefix.{PlainPrefix}
-use Rattle.hn_base.specs.declared.ids.EpId.{EpId}
-use Rattle.hn_base.specs.declared.ids.NodeId.{NodeId}
-use Rattle.hn_data.specs.Later.{IsLater}
-use Rattle.hn_data.specs.View.{PlainView}
-use Rattle.hn_data.specs.declared.view.Entry.{Entry}
-use Rattle.hn_deleg.specs.declared.delegated.Delegated.{Delegated}
-use Rattle.hn_deleg.specs.Laws.{UsableIsUnique}
-use Rattle.hn_deleg.specs.Used.{AreUsable, IsUnwanted, prefixes_of}
-use Rattle.hn_link.specs.CommonLink.{IsCommonLink}
-use Rattle.hn_link.specs.Laws.{CommonLinkOfLater}
-use Rattle.hn_assign.specs.declared.assigned.Assigned.{Assigned}
-use Rattle.hn_assign.specs.declared.assigned.Wish.{Wish}
-use Rattle.hn_assign.specs.declared.held.Ran.{Ran}
-use Rattle.hn_assign.specs.Fixed.{AreAtRest, AreAssignmentsUnchanged, unmarked}
-use Rattle.hn_assign.specs.Gathered.{AreAdvertised}
-use Rattle.hn_assign.specs.Laws.{AdvertisedOfLater, AdvertisedOfUnchanged, RestChangesNoAssignment, RestStays, RestStaysUnwanted}
-use Rattle.hn_assign.specs.Pair.{IsWished, assigned_pair}
-use Rattle.hn_own.specs.Posts.{posts_of, private_posts}
-use Rattle.hn_store.specs.Nodes.{held}
-use Rattle.hn_store.specs.declared.stored.Stored.{Stored}
-use Rattle.hn_rules.specs.declared.running.Running.{Running}
-use Rattle.hn_rules.specs.declared.state.State.{State}
-use Rattle.hn_rules.specs.Assigning.{IsWishAt, AreAsked, IsRunAssigned}
-use Rattle.hn_rules.specs.Nodes.{held_entry, entry_of, view_of}
-use Rattle.hn_rules.specs.Rested.{IsRested, RestfulTick, UsedWhereAssigned, ViewOfLater}
-use Rattle.hn_rules.specs.Router.{IsRouter}
-use Rattle.hn_rules.specs.Rules.{begun_at}
-use Rattle.hn_rules.specs.Seen.{seen_by}
-use Rattle.hn_rules.specs.Still.{at_moment, IsUneventful}
-use Rattle.hn_rules.specs.Ticks.{IsTick}
-use Rattle.hn_audit.specs.Quiet.{IsRouterAtRest}
-use Rattle.hn_audit.specs.Settled.{AreSame, UseSame}
+use Rattle.hn_base.proofs.Names.{◌≡◌, ◌∙◌, ◌-◌, ◌≤◌, ℕ, Bool, not, cond, List, [], ◌∷◌, ◌++◌, Contains, map, Option, Some, refl, sym, ap, subst, ◌==◌, filter_map, cons_option, option_map}
+use Rattle.hn_base.proofs.Names.{All-contains, All-head, All-tail, All-contains_itself, All-weaker, PlainPrefix}
+use Rattle.hn_audit.proofs.Names.{All, slice_get, Contains-from_map, Contains-map, all_of, EpId, NodeId, IsLater, PlainView, Entry, Delegated, UsableIsUnique, AreUsable, IsUnwanted, prefixes_of}
+use Rattle.hn_audit.proofs.Names.{IsCommonLink, CommonLinkOfLater, Assigned, Wish, Ran, AreAtRest, AreAssignmentsUnchanged, unmarked, AreAdvertised, AdvertisedOfLater, IsWished, assigned_pair}
+use Rattle.hn_audit.proofs.Names.{posts_of, private_posts, held, Stored, Running, State, IsWishAt, AreAsked, IsRunAssigned, held_entry, entry_of, view_of, IsRested, ViewOfLater, IsRouter, begun_at}
+use Rattle.hn_audit.proofs.Names.{seen_by, at_moment, IsUneventful, IsTick, IsRouterAtRest, AreSame, UseSame}
+use Rattle.hn_assign.specs.Laws.{AdvertisedOfUnchanged, RestChangesNoAssignment, RestStays, RestStaysUnwanted}
+use Rattle.hn_rules.specs.Rested.{RestfulTick, UsedWhereAssigned}
 use Rattle.hn_audit.proofs.BridgeUsed.{is_unwanted, is_wanted, at_prefix, delegated_at, used_same}
 use Rattle.hn_audit.proofs.EqualInPlace.{same_back}
 

@@ -1,27 +1,7 @@
 -- Where each router of the set of a settled router stays as others see it, the router stays settled.
-use Rattle.std.proofs.Common.{◌≡◌, ◌∙◌, ◌↔◌, ℕ, IsTrue, List, Some, All, Contains, sym, ap, subst}
-use Rattle.std.specs.List.{count_by, slice_get}
-use Rattle.std.specs.Prelude.{find}
-use Rattle.std.specs.Option.{option_map}
-use Rattle.std.proofs.lemmas.List.Elements.{All-weaker}
-use Rattle.std.proofs.lemmas.Option.{slice_get-get_or}
-use Rattle.hn_base.proofs.PartsAtPlaces.{contains_at}
-use Rattle.hn_base.specs.declared.ids.EpId.{EpId}
-use Rattle.hn_base.specs.declared.ids.NodeId.{NodeId}
-use Rattle.hn_assign.specs.Fixed.{AreAssignmentsUnchanged}
-use Rattle.hn_data.specs.Peers.{IsLinked}
-use Rattle.hn_deleg.specs.Laws.{UsableIsUnique}
-use Rattle.hn_own.specs.Own.{PlainData}
-use Rattle.hn_store.specs.Nodes.{held}
-use Rattle.hn_rules.specs.declared.state.State.{State}
-use Rattle.hn_world.specs.declared.member.Attachment.{Attachment}
-use Rattle.hn_world.specs.declared.member.Member.{Member}
-use Rattle.hn_world.specs.declared.parts.Parts.{Parts}
-use Rattle.hn_world.specs.Names.{is_of}
-use Rattle.hn_audit.specs.Quiet.{IsQuiet, IsRouterAtRest}
-use Rattle.hn_audit.specs.Reached.{runs_as, IsRunning, IsOfOne, IsReached, IsOnLink}
-use Rattle.hn_audit.specs.Settled.{HoldsState, UseSame, AreLinked, IsSettled}
-use Rattle.hn_audit.specs.Staying.{IsMemberAt, KeepAssignments}
+use Rattle.hn_base.proofs.Names.{◌≡◌, ◌∙◌, ◌↔◌, ℕ, IsTrue, List, Some, Contains, sym, ap, subst, count_by, find, option_map, All-weaker, slice_get-get_or}
+use Rattle.hn_audit.proofs.Names.{All, slice_get, contains_at, EpId, NodeId, AreAssignmentsUnchanged, IsLinked, UsableIsUnique, PlainData, held, State, Attachment, Member, Parts, is_of, IsQuiet}
+use Rattle.hn_audit.proofs.Names.{IsRouterAtRest, runs_as, IsRunning, IsOfOne, IsReached, IsOnLink, HoldsState, UseSame, AreLinked, IsSettled, IsMemberAt, KeepAssignments}
 use Rattle.hn_audit.proofs.EqualInPlace.{same_back, use_same_too}
 
 -- a router of the world is the same one

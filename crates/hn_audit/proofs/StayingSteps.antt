@@ -1,37 +1,14 @@
 -- A settled and quiet router stays so when time passes, and when a router ticks.
-use Rattle.std.proofs.Common.{◌≡◌, ◌≢◌, ◌∙◌, ◌⊎◌, ℕ, zero, suc, Bool, cond, get_or, List, [], ◌∷◌, Some, slice_get, inl, inr, refl, sym, ap, subst, arith}
-use Rattle.std.specs.Prelude.{◌==◌, ◌&&◌}
-use Rattle.std.specs.List.{count_by, slice_set}
-use Rattle.std.proofs.lemmas.Bool.{cases_eq}
-use Rattle.std.proofs.lemmas.List.Elements.{All-contains}
-use Rattle.std.proofs.lemmas.List.Sums.{sum_by-set}
-use Rattle.std.proofs.lemmas.Option.{get_or_from_slice_get, same_Some, slice_get_within}
-use Rattle.hn_base.specs.declared.ids.NodeId.{NodeId}
-use Rattle.hn_base.specs.declared.name.Name.{Name}
-use Rattle.hn_data.specs.View.{PlainView}
-use Rattle.hn_deleg.specs.Used.{AreUsable}
-use Rattle.hn_rules.specs.declared.done.Done.{Done}
-use Rattle.hn_rules.specs.declared.done.Note.{Note}
-use Rattle.hn_rules.specs.declared.running.Running.{Running}
-use Rattle.hn_rules.specs.declared.state.State.{State}
-use Rattle.hn_rules.specs.Rested.{IsRested, KeepsId}
-use Rattle.hn_rules.specs.Rules.{begun_at}
-use Rattle.hn_rules.specs.Seen.{seen_by}
-use Rattle.hn_rules.specs.Ticks.{IsTick}
-use Rattle.hn_router.specs.Act.{Tick, Happened}
-use Rattle.hn_router.specs.Laws.{MomentIsNow}
-use Rattle.hn_world.specs.declared.event.Traced.{Traced}
-use Rattle.hn_world.specs.declared.event.WEvent.{WEvent}
+use Rattle.hn_base.proofs.Names.{◌≡◌, ◌≢◌, ◌∙◌, ◌⊎◌, ℕ, zero, suc, Bool, cond, get_or, List, [], ◌∷◌, Some, slice_get, inl, inr, refl, sym, ap, subst, arith, ◌==◌, ◌&&◌, count_by, cases_eq}
+use Rattle.hn_base.proofs.Names.{All-contains, sum_by-set, get_or_from_slice_get, same_Some, slice_get_within}
+use Rattle.hn_audit.proofs.Names.{slice_set, NodeId, Name, PlainView, AreUsable, Done, Note, Running, State, IsRested, begun_at, seen_by, IsTick, Tick, MomentIsNow, Traced, WEvent, Member, Parts}
+use Rattle.hn_audit.proofs.Names.{WorldHasItsTrace, WorldHasItsVersion, IsReplayed, IsSoundMember, Does, IsQuiet, runs_as, IsRunning, IsReached, UseSame, IsSettled, IsMemberAt, IsRestful}
+use Rattle.hn_audit.proofs.Names.{KeepAssignments}
+use Rattle.hn_rules.specs.Rested.{KeepsId}
+use Rattle.hn_router.specs.Act.{Happened}
 use Rattle.hn_world.specs.declared.event.WEvent.TheVariants as event
-use Rattle.hn_world.specs.declared.member.Member.{Member}
-use Rattle.hn_world.specs.declared.parts.Parts.{Parts}
-use Rattle.hn_world.specs.Laws.{EachEventIsAStep, WorldHasItsTrace, WorldHasItsVersion}
-use Rattle.hn_world.specs.Replay.{IsReplayed, IsSoundMember}
-use Rattle.hn_world.specs.Step.{Does}
-use Rattle.hn_audit.specs.Quiet.{IsQuiet}
-use Rattle.hn_audit.specs.Reached.{runs_as, IsRunning, IsReached}
-use Rattle.hn_audit.specs.Settled.{UseSame, IsSettled}
-use Rattle.hn_audit.specs.Staying.{IsMemberAt, IsRestful, KeepAssignments, QuietStays, QuietHomesStay, QuietHomesAlwaysStay}
+use Rattle.hn_world.specs.Laws.{EachEventIsAStep}
+use Rattle.hn_audit.specs.Staying.{QuietStays, QuietHomesStay, QuietHomesAlwaysStay}
 use Rattle.hn_audit.proofs.BridgeSets.{itself}
 use Rattle.hn_audit.proofs.BridgeWorlds.{WorldLaws, known_of}
 use Rattle.hn_audit.proofs.FrontWorlds.{replayed}

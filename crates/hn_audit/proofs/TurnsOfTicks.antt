@@ -1,27 +1,11 @@
 -- Turns in which each router ticks keep a home at rest.
-use Rattle.std.proofs.Common.{◌≡◌, ◌∙◌, ◌⊎◌, ◌<◌, ◌≤◌, ◌-◌, ◌+◌, ℕ, true, List, [], ◌∷◌, length, Some, Contains, slice_get, inl, inr, refl, sym, ap, subst, arith}
-use Rattle.std.specs.List.{slice_set}
-use Rattle.std.proofs.lemmas.List.Elements.{All-contains}
-use Rattle.std.proofs.lemmas.Option.{same_Some, slice_get-get_or}
-use Rattle.hn_base.proofs.PartsAtPlaces.{contains_at}
-use Rattle.hn_dncp.specs.declared.port.Port.{Port}
-use Rattle.hn_own.specs.Ports.{port_at}
-use Rattle.hn_rules.specs.declared.arrival.passing.Passing.{Passing}
-use Rattle.hn_rules.specs.declared.done.Note.{Note}
-use Rattle.hn_rules.specs.declared.state.State.{State}
-use Rattle.hn_rules.specs.Passing.{after_passing}
+use Rattle.hn_base.proofs.Names.{◌≡◌, ◌∙◌, ◌⊎◌, ◌<◌, ◌≤◌, ◌-◌, ◌+◌, ℕ, true, List, [], ◌∷◌, length, Some, Contains, slice_get, inl, inr, refl, sym, ap, subst, arith, All-contains, same_Some}
+use Rattle.hn_base.proofs.Names.{slice_get-get_or}
+use Rattle.hn_audit.proofs.Names.{slice_set, contains_at, Port, port_at, Passing, Note, State, after_passing, Traced, WEvent, Member, Parts, IsReplayed, IsSoundMember, Does, IsCalmArrival, IsResting}
+use Rattle.hn_audit.proofs.Names.{IsRestfulEvent, AreHeardSince, ArePeersLinked, IsCalmSince, AreSendsHeard, GoesLossless, AreDelivered, HasTicked, GoesInTurns, IsReached, IsMemberAt, IsRestful}
 use Rattle.hn_rules.specs.Updates.{TicksHaveSent}
-use Rattle.hn_world.specs.declared.event.Traced.{Traced}
-use Rattle.hn_world.specs.declared.event.WEvent.{WEvent}
 use Rattle.hn_world.specs.declared.event.WEvent.TheVariants as event
-use Rattle.hn_world.specs.declared.member.Member.{Member}
-use Rattle.hn_world.specs.declared.parts.Parts.{Parts}
-use Rattle.hn_world.specs.Replay.{IsReplayed, IsSoundMember}
-use Rattle.hn_world.specs.Step.{Does}
-use Rattle.hn_audit.specs.Calm.{IsCalmArrival, IsResting, IsRestfulEvent}
-use Rattle.hn_audit.specs.Heard.{heard_after, AreHeardSince, ArePeersLinked, IsCalmSince, AreSendsHeard, GoesLossless, AreDelivered, TicksAt, HasTicked, GoesInTurns, RestGoesInTurns}
-use Rattle.hn_audit.specs.Reached.{IsReached}
-use Rattle.hn_audit.specs.Staying.{IsMemberAt, IsRestful}
+use Rattle.hn_audit.specs.Heard.{heard_after, TicksAt, RestGoesInTurns}
 use Rattle.hn_audit.proofs.CalmDeliveries.{passed}
 use Rattle.hn_audit.proofs.RestsHeard.{restful_by, time_by}
 use Rattle.hn_audit.proofs.RestsOnwards.{GoesOn, ran}

@@ -1,9 +1,7 @@
 -- What `any` answers, as a fact of elements.
-use Rattle.std.proofs.Common.{◌↔◌, ℕ, ◌<◌, Bool, true, false, IsTrue, Contains, List, [], ◌∷◌, length, get_or, arith}
+use Rattle.hn_base.proofs.Names.{◌↔◌, ℕ, ◌<◌, Bool, true, false, IsTrue, Contains, List, [], ◌∷◌, length, get_or, arith, AllWithin, HoldsAt, Contains-get_or}
 use Rattle.std.specs.Bool.{MatchBool}
-use Rattle.std.specs.List.{AllWithin, HoldsAt}
 use Rattle.std.proofs.lemmas.Iterator.Search.{true_from_Any}
-use Rattle.std.proofs.lemmas.List.Elements.{Contains-get_or}
 
 -- what `any` answers, as one element with the fact
 pub any_decides : {X : Type 0} (P : X → Type 0) (r : Bool) (xs : List X)

@@ -1,7 +1,5 @@
 -- One of the first elements of a list has a fact, which may speak of its place.
-use Rattle.std.proofs.Common.{◌≡◌, ℕ, ◌+◌, ◌<◌, ◌≤◌, ◌⊎◌, inl, inr, List, length, Some, slice_get, sym, ◌∙◌, ap, subst, ⊎_elim, arith}
-use Rattle.std.proofs.lemmas.Bool.{cases_lt}
-use Rattle.std.proofs.lemmas.Option.{same_Some, slice_get_within}
+use Rattle.hn_base.proofs.Names.{◌≡◌, ℕ, ◌+◌, ◌<◌, ◌≤◌, ◌⊎◌, inl, inr, List, length, Some, slice_get, sym, ◌∙◌, ap, subst, ⊎_elim, arith, cases_lt, same_Some, slice_get_within}
 
 pub record IsOfFirst {K : Type 0} (P : ℕ → K → Type 0) (xs : List K) (n : ℕ) : Type 0 where
   pub k : ℕ

@@ -1,19 +1,12 @@
 -- Lists in strictly ascending order.
-use Rattle.std.proofs.Common.{◌≡◌, ◌↔◌, ℕ, ◌<◌, ◌≤◌, ◌+◌, Bool, IsTrue, true, false, List, [], ◌∷◌, ◌++◌, length, get_or, Contains, Result, Ok, Err, is_ok, Ordering, map, refl, sym, ◌∙◌, ap, subst}
-use Rattle.std.proofs.Common.{inl, inr, ◌⊎◌, ⊎_elim, arith, suc, zero}
-use Rattle.std.specs.declared.cmp.Ordering.TheVariants.{Less, Equal, Greater}
-use Rattle.std.specs.Cmp.{IsTotalOrder, IsEquivalence}
-use Rattle.std.specs.List.{AllByRecursion, dedup}
-use Rattle.std.specs.List.Sorted.{IsStrictlySortedBy, IsSorted, IsSearchInRange, IsBinarySearchResult}
-use Rattle.std.specs.Cmp.Lexicographic.{slice_cmp}
-use Rattle.std.specs.Ordering.{is_eq, is_lt, eq_by_cmp, nat_cmp, on, then_cmp, ordering_reverse, ordering_then}
-use Rattle.std.proofs.lemmas.Bool.{cases_lt}
-use Rattle.std.proofs.lemmas.Cmp.{tied_itself, ranked, by_ranked}
-use Rattle.std.proofs.lemmas.List.Elements.{All-from_recursion, All-contains}
+use Rattle.hn_base.proofs.Names.{◌≡◌, ◌↔◌, ℕ, ◌<◌, ◌≤◌, ◌+◌, Bool, IsTrue, true, false, List, [], ◌∷◌, ◌++◌, length, get_or, Contains, Result, Ok, Err, is_ok, Ordering, map, refl, sym, ◌∙◌, ap, subst}
+use Rattle.hn_base.proofs.Names.{inl, inr, ◌⊎◌, ⊎_elim, arith, suc, zero, Less, Equal, Greater, IsTotalOrder, IsEquivalence, AllByRecursion, IsSearchInRange, IsBinarySearchResult, slice_cmp, is_eq}
+use Rattle.hn_base.proofs.Names.{is_lt, eq_by_cmp, nat_cmp, on, then_cmp, ordering_reverse, ordering_then, cases_lt, tied_itself, by_ranked, All-from_recursion, All-contains, searchable_from_sorted}
+use Rattle.hn_base.proofs.Names.{sorted_head, sorted_tail, Less-from_sorted, IsExact}
+use Rattle.std.specs.List.{dedup}
+use Rattle.std.specs.List.Sorted.{IsStrictlySortedBy, IsSorted}
+use Rattle.std.proofs.lemmas.Cmp.{ranked}
 use Rattle.std.proofs.lemmas.List.Kept.{Any-dedup, Contains-dedup, Contains-from_dedup}
-use Rattle.std.proofs.lemmas.List.Sorted.{searchable_from_sorted}
-use Rattle.std.proofs.lemmas.Map.Keys.{sorted_head, sorted_tail, Less-from_sorted}
-use Rattle.hn_base.specs.Ascending.{IsExact}
 use Rattle.hn_base.proofs.EachByRecursion.{AllByRecursion-push}
 
 -- ---- Contains, element by element

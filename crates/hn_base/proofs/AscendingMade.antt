@@ -1,14 +1,9 @@
 -- Under a total order there is a list in ascending order with given elements.
-use Rattle.std.proofs.Common.{◌≡◌, ◌∙◌, ◌↔◌, ◌⊎◌, List, [], ◌∷◌, Contains, inl, inr, refl, sym, ap, subst}
-use Rattle.std.specs.Cmp.{IsTotalOrder}
+use Rattle.hn_base.proofs.Names.{◌≡◌, ◌∙◌, ◌↔◌, ◌⊎◌, List, [], ◌∷◌, Contains, inl, inr, refl, sym, ap, subst, IsTotalOrder, ordering_reverse, Less, Equal, Greater, recursion_from_All, sorted_tail}
+use Rattle.hn_base.proofs.Names.{IsExact}
+use Rattle.hn_base.proofs.Names.{Ordering}
 use Rattle.std.specs.List.Sorted.{IsStrictlySortedBy}
-use Rattle.std.specs.Ordering.{ordering_reverse}
-use Rattle.std.specs.declared.cmp.Ordering.{Ordering}
-use Rattle.std.specs.declared.cmp.Ordering.TheVariants.{Less, Equal, Greater}
-use Rattle.std.proofs.lemmas.List.Elements.{recursion_from_All}
-use Rattle.std.proofs.lemmas.Map.Keys.{sorted_tail}
 use Rattle.hn_base.proofs.AscendingLists.{Contains-head, Contains-tail, Contains-cases, below_head, nothing_in}
-use Rattle.hn_base.specs.Ascending.{IsExact}
 use Rattle.hn_base.proofs.Elements.{all_of}
 
 -- a first element that is below all others

@@ -1,14 +1,8 @@
 -- Elements in ascending order of a number that each has.
-use Rattle.std.proofs.Common.{◌≡◌, ◌<◌, ◌≤◌, ◌+◌, suc, ℕ, Bool, true, false, List, [], ◌∷◌, ◌++◌, length, map, filter, sym, subst, arith, length-append}
-use Rattle.std.specs.Prelude.{nat_lt, ◌==◌}
-use Rattle.std.specs.List.{AllByRecursion, list_any}
+use Rattle.hn_base.proofs.Names.{◌≡◌, ◌<◌, ◌≤◌, ◌+◌, suc, ℕ, Bool, true, false, List, [], ◌∷◌, ◌++◌, length, map, filter, sym, subst, arith, length-append, ◌==◌, AllByRecursion, list_any, Less}
+use Rattle.hn_base.proofs.Names.{nat_cmp, nat_cmp_is, ranked, cond_both, ltb-true, le-ltb, eqb-true, map-append, nat_cmp_total}
+use Rattle.hn_base.proofs.Names.{nat_lt}
 use Rattle.std.specs.List.Sorted.{IsStrictlySortedBy}
-use Rattle.std.specs.declared.cmp.Ordering.TheVariants.{Less}
-use Rattle.std.specs.Ordering.{nat_cmp}
-use Rattle.std.specs.Cmp.{nat_cmp_is, ranked}
-use Rattle.std.proofs.lemmas.Bool.{cond_both, ltb-true, le-ltb, eqb-true}
-use Rattle.std.proofs.lemmas.List.{map-append}
-use Rattle.std.proofs.lemmas.Cmp.{nat_cmp_total}
 use Rattle.hn_base.proofs.BelowAndAbove.{few_apart, fewer_apart, sorted_around}
 
 -- ---- numbers in order

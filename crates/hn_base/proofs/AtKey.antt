@@ -1,9 +1,5 @@
 -- What lists have for a key.
-use Rattle.std.proofs.Common.{◌≡◌, ◌∙◌, ◌⊎◌, List, [], ◌∷◌, Contains, Option, None, Some, Ordering, refl, sym, ap, inl, inr, ⊎_elim}
-use Rattle.std.specs.Cmp.{IsTotalOrder}
-use Rattle.std.specs.List.Sorted.{IsStrictlySortedBy}
-use Rattle.std.specs.Ordering.{on}
-use Rattle.hn_base.specs.Ascending.{IsExact, HasAt}
+use Rattle.hn_base.proofs.Names.{◌≡◌, ◌∙◌, ◌⊎◌, List, [], ◌∷◌, Contains, Option, None, Some, Ordering, refl, sym, ap, inl, inr, ⊎_elim, IsTotalOrder, IsStrictlySortedBy, on, IsExact, HasAt}
 use Rattle.hn_base.proofs.AscendingLists.{nothing_in, Contains-head, Contains-tail, Contains-cases}
 use Rattle.hn_base.proofs.DecidingTests.{cases_by}
 use Rattle.hn_base.proofs.PartsAtPlaces.{one_of_ascending}

@@ -1,6 +1,6 @@
 -- What stands at the beginning of some bytes, as one thing: nothing, an element and the bytes after it, or a fault with
 -- its offset and its cause. No two readings that agree with it hold of the same bytes.
-use Rattle.std.proofs.Common.{◌≡◌, ◌∙◌, ℕ, List, [], ◌++◌, sym, ap}
+use Rattle.hn_base.proofs.Names.{◌≡◌, ◌∙◌, ℕ, List, [], ◌++◌, sym, ap}
 
 pub data Outcome (X : Type 0) : Type 0 where
   Ends : Outcome X

@@ -1,12 +1,7 @@
 -- An element at its place: after those below it and before those above it.
-use Rattle.std.proofs.Common.{◌≡◌, ◌<◌, ◌≤◌, ◌+◌, ℕ, suc, Bool, true, false, cond, Ordering, List, [], ◌∷◌, ◌++◌, length, filter, refl, inl, inr, arith}
-use Rattle.std.specs.Prelude.{All}
-use Rattle.std.specs.declared.cmp.Ordering.TheVariants.{Less}
-use Rattle.std.specs.Cmp.{IsTotalOrder}
-use Rattle.std.specs.List.{AllByRecursion, list_any}
+use Rattle.hn_base.proofs.Names.{◌≡◌, ◌<◌, ◌≤◌, ◌+◌, ℕ, suc, Bool, true, false, cond, Ordering, List, [], ◌∷◌, ◌++◌, length, filter, refl, inl, inr, arith, All, Less, IsTotalOrder, AllByRecursion}
+use Rattle.hn_base.proofs.Names.{list_any, or_cases, All-append, All-cons, All-from_recursion, All-weaker, recursion_from_All}
 use Rattle.std.specs.List.Sorted.{IsStrictlySortedBy}
-use Rattle.std.proofs.lemmas.Bool.{or_cases}
-use Rattle.std.proofs.lemmas.List.Elements.{All-append, All-cons, All-from_recursion, All-weaker, recursion_from_All}
 
 -- a list, an element after it, and a list after that
 pub sorted_around : {K : Type 0} (R : K → K → Ordering) → IsTotalOrder R → (xs : List K) (y : K) (ys : List K) → IsStrictlySortedBy R xs → AllByRecursion (λ x. R x y ≡ Less) xs

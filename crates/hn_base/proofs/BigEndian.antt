@@ -1,13 +1,10 @@
 -- Bytes in network byte order and the number that they make, for any count of them; and so for 16.
-use Rattle.std.proofs.Common.{◌≡◌, ℕ, zero, suc, ◌+◌, ◌-◌, ◌*◌, ◌/◌, ◌%◌, ◌^◌, ◌<◌, ◌≤◌, List, [], ◌∷◌, ◌++◌, length, get_or, take, drop, replicate, refl, sym, ap, subst, ◌∙◌, arith}
-use Rattle.std.specs.Prelude.{All}
-use Rattle.std.specs.List.{AllByRecursion}
-use Rattle.std.specs.Int.{w16, w32, w128, byte_at, byte_worth, bytes_high_first, sum_through, to_be_bytes, from_be_bytes}
-use Rattle.std.proofs.lemmas.List.{length-append, length-replicate, length-drop, length-take-le, take-append-drop, take_at}
-use Rattle.std.proofs.lemmas.Nat.{be_bytes_2, from_be_bytes-to_be_bytes_2, from_be_bytes-to_be_bytes_4, pow-add, mod-pow-add, mul-add-lt, same_from_place, mod_low}
-use Rattle.std.proofs.Math.Nat.{pow-suc}
-use Rattle.std.proofs.lemmas.List.Elements.{All-from_recursion}
-use Rattle.hn_base.specs.Byte.{IsByte}
+use Rattle.hn_base.proofs.Names.{◌≡◌, ℕ, zero, suc, ◌+◌, ◌-◌, ◌*◌, ◌/◌, ◌%◌, ◌^◌, ◌<◌, ◌≤◌, List, [], ◌∷◌, ◌++◌, length, get_or, take, drop, replicate, refl, sym, ap, subst, ◌∙◌, arith, All}
+use Rattle.hn_base.proofs.Names.{AllByRecursion, w16, w32, w128, byte_at, to_be_bytes, from_be_bytes, length-replicate, length-drop, length-take-le, take-append-drop, take_at}
+use Rattle.hn_base.proofs.Names.{from_be_bytes-to_be_bytes_2, from_be_bytes-to_be_bytes_4, pow-add, mod-pow-add, pow-suc, All-from_recursion, IsByte}
+use Rattle.std.specs.Int.{byte_worth, bytes_high_first, sum_through}
+use Rattle.std.proofs.lemmas.List.{length-append}
+use Rattle.std.proofs.lemmas.Nat.{be_bytes_2, mul-add-lt, same_from_place, mod_low}
 use Rattle.hn_base.proofs.EachByRecursion.{AllByRecursion-append, AllByRecursion-take, AllByRecursion-drop}
 
 -- the number that bytes make

@@ -1,16 +1,6 @@
 -- Tests that decide whether values are the same, and what a test says of an option.
-use Rattle.std.proofs.Common.{◌≡◌, ◌≢◌, ◌⊎◌, ◌∙◌, ℕ, Bool, true, false, List, Option, Some, None, Ordering, Decides, inl, inr, refl, sym, ap}
-use Rattle.std.specs.Cmp.{IsTotalOrder}
-use Rattle.std.specs.Prelude.{◌==◌, ◌&&◌, is_none, nat_eq}
-use Rattle.std.specs.Option.{option_eq, option_or}
-use Rattle.std.specs.Ordering.{eq_by_cmp, is_eq}
-use Rattle.std.specs.Str.{bytes_eq}
-use Rattle.std.specs.declared.cmp.Ordering.TheVariants.{Equal}
-use Rattle.std.proofs.lemmas.Bool.{cases_Bool, false≢true}
-use Rattle.std.proofs.lemmas.Bool.Decides.{Decides-and, Decides-like, Decides-eqb, not_from_Decides}
-use Rattle.std.proofs.lemmas.Cmp.{tied_itself}
-use Rattle.std.proofs.lemmas.Slice.Eq.{bytes_eq-Decides}
-use Rattle.hn_base.specs.Ascending.{IsExact}
+use Rattle.hn_base.proofs.Names.{◌≡◌, ◌≢◌, ◌⊎◌, ◌∙◌, ℕ, Bool, true, false, List, Option, Some, None, Ordering, Decides, inl, inr, refl, sym, ap, IsTotalOrder, ◌==◌, ◌&&◌, is_none, nat_eq, option_eq}
+use Rattle.hn_base.proofs.Names.{option_or, eq_by_cmp, is_eq, bytes_eq, Equal, cases_Bool, false≢true, Decides-and, Decides-like, Decides-eqb, not_from_Decides, tied_itself, bytes_eq-Decides, IsExact}
 use Rattle.hn_base.proofs.AscendingLists.{equal_from_is_eq}
 use Rattle.hn_base.specs.Codes.{unless_there}
 

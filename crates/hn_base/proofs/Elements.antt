@@ -1,13 +1,11 @@
 -- Which elements lists have, lists that grow by what an element gives, and what a list gives that is made of another or
 -- of parts.
-use Rattle.std.proofs.Common.{◌≡◌, ℕ, ◌+◌, ◌<◌, Bool, true, false, cond, Option, Some, None, List, [], ◌∷◌, ◌++◌, length, get_or, take, All, Contains, refl, sym, ap, ◌∙◌, subst, inl, inr, find}
-use Rattle.std.proofs.Common.{is_some, map, arith}
-use Rattle.std.specs.List.{filter, filter_map, cons_option, list_any, AllPairs}
-use Rattle.std.proofs.lemmas.List.{take_more, append-nil, get_or_default}
-use Rattle.std.proofs.lemmas.List.Folds.{Any-from_list_any, list_any_at}
-use Rattle.std.proofs.lemmas.List.Elements.{All-contains_itself, filter_map-append}
+use Rattle.hn_base.proofs.Names.{◌≡◌, ℕ, ◌+◌, ◌<◌, Bool, true, false, cond, Option, Some, None, List, [], ◌∷◌, ◌++◌, length, get_or, take, Contains, refl, sym, ap, ◌∙◌, subst, inl, inr, is_some, map}
+use Rattle.hn_base.proofs.Names.{arith, filter_map, cons_option, list_any, AllPairs, take_more, append-nil, get_or_default, list_any_at, All-contains_itself, filter_map-append, cases_lt}
+use Rattle.hn_base.proofs.Names.{All, find}
+use Rattle.std.specs.List.{filter}
+use Rattle.std.proofs.lemmas.List.Folds.{Any-from_list_any}
 use Rattle.hn_base.proofs.AscendingLists.{nothing_in, Contains-head, Contains-tail, Contains-cases}
-use Rattle.std.proofs.lemmas.Bool.{cases_lt}
 
 -- what holds of each element
 pub all_of : {K : Type 0} (P : K → Type 0) (xs : List K) → ((x : K) → Contains xs x → P x) → All P xs

@@ -1,7 +1,7 @@
 -- Rules of which each has exactly one result over one stream of words, where a fact holds before, and how they compose.
-use Rattle.std.proofs.Common.{◌≡◌, ◌⊎◌, ℕ, Bool, true, false, List, Option, Some, Contains, sym, ◌∙◌, true≢false}
-use Rattle.hn_base.specs.Exists.{Some! }
-use Rattle.hn_base.specs.Rules.{RuleOf, Then, Each, OnSome, KeepsFact, IsSoleBy, IsTotalBy, IsExactBy}
+use Rattle.hn_base.proofs.Names.{◌≡◌, ◌⊎◌, ℕ, Bool, true, false, List, Option, Some, Contains, sym, ◌∙◌, Some!, RuleOf, Then, Each, OnSome, KeepsFact, IsSoleBy, IsTotalBy}
+use Rattle.std.proofs.Common.{true≢false}
+use Rattle.hn_base.specs.Rules.{IsExactBy}
 use Rattle.hn_base.proofs.OneResult.{sole_given, sole_plain, sole_both, sole_each, sole_start, sole_after, sole_on, sole_or, sole_where, sole_some, sole_from}
 use Rattle.hn_base.proofs.SomeResult.{total_given, total_plain, total_both, total_each, total_start, total_after, total_on, total_cases, total_test, total_some, total_by, total_from}
 

@@ -1,6 +1,5 @@
 -- Two readings of a table of which the first line decides whose condition holds.
-use Rattle.std.proofs.Common.{◌≡◌, ◌∙◌, ℕ, inl, inr, sym}
-use Rattle.hn_base.specs.Causes.{LineElse, OnCause}
+use Rattle.hn_base.proofs.Names.{◌≡◌, ◌∙◌, ℕ, inl, inr, sym, LineElse, OnCause}
 
 -- both end at this line, or both go on
 pub both_lines : {C A B L M R : Type 0} → LineElse C A L → LineElse C B M → (A → B → R) → (L → M → R) → R

@@ -1,10 +1,7 @@
 -- The first words of a stream, and words taken from one place of it.
-use Rattle.std.proofs.Common.{◌≡◌, ◌∙◌, ◌+◌, ◌-◌, ◌<◌, ℕ, zero, suc, List, [], ◌∷◌, ◌++◌, length, get_or, drop, refl, sym, ap, subst, inl, inr, arith, length-append}
-use Rattle.std.proofs.lemmas.Bool.{cases_lt}
-use Rattle.std.proofs.lemmas.Grind.{common_steps, same_number_lists}
-use Rattle.std.proofs.lemmas.List.{get_or_append_left, get_or-append_right}
-use Rattle.std.proofs.Math.Seq.{drop-append_seam, get_or-append_seam}
-use Rattle.hn_base.specs.Words.{Begins}
+use Rattle.hn_base.proofs.Names.{◌≡◌, ◌∙◌, ◌+◌, ◌-◌, ◌<◌, ℕ, zero, suc, List, [], ◌∷◌, ◌++◌, length, get_or, drop, refl, sym, ap, subst, inl, inr, arith, length-append, cases_lt, common_steps}
+use Rattle.hn_base.proofs.Names.{same_number_lists, get_or_append_left, drop-append_seam, get_or-append_seam, Begins}
+use Rattle.std.proofs.lemmas.List.{get_or-append_right}
 use Rattle.hn_base.proofs.FrontOfList.{head_is}
 
 -- where some words and others begin a stream, the former do

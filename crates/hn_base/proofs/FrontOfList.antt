@@ -1,9 +1,7 @@
 -- The elements before a place: one more of them, and a test that they alone pass or fail.
-use Rattle.std.proofs.Common.{◌≡◌, ◌<◌, ◌≤◌, ℕ, zero, suc, Bool, true, false, List, [], ◌∷◌, length, filter, take, drop, get_or, Some, None, refl, sym, ap, arith, ◌∙◌, ◌+◌, ◌++◌, slice_get}
-use Rattle.std.specs.Prelude.{find}
+use Rattle.hn_base.proofs.Names.{◌≡◌, ◌<◌, ◌≤◌, ℕ, zero, suc, Bool, true, false, List, [], ◌∷◌, length, filter, take, drop, get_or, Some, None, refl, sym, ap, arith, ◌∙◌, ◌+◌, ◌++◌, slice_get, find}
+use Rattle.hn_base.proofs.Names.{take_more, take_at, drop_at, get_or_from_slice_get, slice_get_within}
 use Rattle.std.proofs.Math.Seq.{take-nil, drop-nil}
-use Rattle.std.proofs.lemmas.List.{take_more, take_at, drop_at}
-use Rattle.std.proofs.lemmas.Option.{get_or_from_slice_get, slice_get_within}
 
 -- ---- the first elements
 

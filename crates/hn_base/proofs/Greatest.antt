@@ -1,8 +1,6 @@
 -- A greatest element of a list, among those that have a fact.
-use Rattle.std.proofs.Common.{◌≡◌, ◌⊎◌, inl, inr, List, [], ◌∷◌, refl, sym, subst}
-use Rattle.std.specs.declared.cmp.Ordering.{Ordering}
-use Rattle.std.specs.declared.cmp.Ordering.TheVariants.{Less, Equal, Greater}
-use Rattle.std.specs.Cmp.{IsTotalOrder}
+use Rattle.hn_base.proofs.Names.{◌≡◌, ◌⊎◌, inl, inr, List, [], ◌∷◌, refl, sym, subst, Less, Equal, Greater, IsTotalOrder}
+use Rattle.hn_base.proofs.Names.{Ordering}
 use Rattle.std.specs.List.{Contains}
 use Rattle.hn_base.proofs.AscendingLists.{not_below_itself, nothing_in, Contains-head, Contains-tail, Contains-cases}
 

@@ -1,14 +1,12 @@
 -- Bytes in hexadecimal, one after the other.
-use Rattle.std.proofs.Common.{◌≡◌, ℕ, ◌/◌, ◌%◌, ◌<◌, List, [], ◌∷◌, ◌++◌, length, refl, sym, ap, subst, ◌∙◌, arith}
+use Rattle.hn_base.proofs.Names.{◌≡◌, ℕ, ◌/◌, ◌%◌, ◌<◌, List, [], ◌∷◌, ◌++◌, length, refl, sym, ap, subst, ◌∙◌, arith, HasWritten, IsPlainFormatter, IsUtf8, has_written_append, IsUtf8-from_ascii}
+use Rattle.hn_base.proofs.Names.{hex_text}
+use Rattle.hn_base.proofs.Names.{encode_lower}
 use Rattle.std.specs.Prelude.{slice_index}
-use Rattle.std.specs.Fmt.{HasWritten, IsPlainFormatter}
 use Rattle.std.specs.declared.fmt.Formatter.{Formatter}
-use Rattle.std.specs.Str.{IsUtf8}
-use Rattle.std.proofs.Output.{has_written_append, writes_in_calls_nil}
-use Rattle.std.proofs.lemmas.Str.{IsUtf8-from_ascii}
-use Rattle.hex.specs.Hex.{encode_with, encode_lower, lower_digits}
+use Rattle.std.proofs.Output.{writes_in_calls_nil}
+use Rattle.hex.specs.Hex.{encode_with, lower_digits}
 use Rattle.hex.proofs.HexLemmas.{IsAscii-encode_with}
-use Rattle.hn_base.specs.HexText.{hex_text}
 use Rattle.hn_base.proofs.NameBytes.{IsAscii-from_name_bytes}
 
 pub encode_lower-append : (xs ys : List ℕ) → encode_lower (xs ++ ys) ≡ encode_lower xs ++ encode_lower ys

@@ -1,16 +1,11 @@
 -- Identifiers and keys are known by their fields, keys that are equal in their order are one, and an element is found by
 -- the number of its endpoint identifier.
-use Rattle.std.proofs.Common.{◌≡◌, ℕ, true, List, Contains, Option, is_some, find, map, Decides, ap, subst}
-use Rattle.std.specs.Prelude.{◌==◌}
-use Rattle.std.specs.Cmp.{IsTotalOrder}
-use Rattle.std.specs.Ordering.{on, then_cmp, nat_cmp}
-use Rattle.std.proofs.lemmas.Bool.{eqb-true, eq-eqb}
-use Rattle.std.proofs.lemmas.Cmp.{on_total, then_total, nat_cmp_total}
+use Rattle.hn_base.proofs.Names.{◌≡◌, ℕ, true, List, Contains, Option, is_some, map, Decides, ap, subst, ◌==◌, IsTotalOrder, on, then_cmp, nat_cmp, eqb-true, eq-eqb, on_total, then_total}
+use Rattle.hn_base.proofs.Names.{nat_cmp_total, key_cmp, IsExact}
+use Rattle.hn_base.proofs.Names.{find}
 use Rattle.hn_base.specs.declared.ids.NodeId.{NodeId}
 use Rattle.hn_base.specs.declared.ids.EpId.{EpId}
 use Rattle.hn_base.specs.declared.key.Key.{Key}
-use Rattle.hn_base.specs.Key.{key_cmp}
-use Rattle.hn_base.specs.Ascending.{IsExact}
 use Rattle.hn_base.proofs.AscendingLists.{exact_nat, exact_then, Contains-map, Contains-from_map}
 use Rattle.hn_base.proofs.Elements.{found_there, passing_found}
 

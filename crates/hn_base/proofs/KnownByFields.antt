@@ -1,6 +1,5 @@
 -- Values are what their fields say: the facts that their types keep have one proof each.
-use Rattle.std.proofs.Common.{◌≡◌, ◌≤◌, ℕ, refl, ap, subst}
-use Rattle.std.proofs.Props.{props}
+use Rattle.hn_base.proofs.Names.{◌≡◌, ◌≤◌, ℕ, refl, ap, subst, props}
 use Rattle.hn_base.specs.declared.caps.Caps.{Caps}
 
 -- what is made of a value and a fact that has one proof is made of the value

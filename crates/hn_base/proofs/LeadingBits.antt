@@ -1,5 +1,5 @@
 -- Numbers of 128 bits by the first of them.
-use Rattle.std.proofs.Common.{◌≡◌, ℕ, ◌+◌, ◌-◌, ◌/◌, ◌^◌, ◌≤◌, ap, arith}
+use Rattle.hn_base.proofs.Names.{◌≡◌, ℕ, ◌+◌, ◌-◌, ◌/◌, ◌^◌, ◌≤◌, ap, arith}
 use Rattle.std.proofs.lemmas.Nat.{shr-shr}
 
 -- two that begin alike in a longer length begin alike in a shorter one

@@ -1,3 +1,4 @@
+pub mod Names
 pub mod AmongFirst
 pub mod AscendingLists
 pub mod AscendingMade

@@ -1,11 +1,5 @@
 -- The bytes of a name are ASCII, and so text.
-use Rattle.std.proofs.Common.{◌≡◌, ◌<◌, ℕ, true, List, [], ◌∷◌, arith, zero, suc}
-use Rattle.std.proofs.lemmas.Grind.{common_steps}
-use Rattle.std.proofs.lemmas.Bool.Decides.{nat_tests}
-use Rattle.std.proofs.lemmas.Str.{IsUtf8-from_ascii}
-use Rattle.std.specs.List.{list_all}
-use Rattle.std.specs.Str.{IsAscii, IsUtf8}
-use Rattle.hn_base.specs.NameText.{is_name_byte}
+use Rattle.hn_base.proofs.Names.{◌≡◌, ◌<◌, ℕ, true, List, [], ◌∷◌, arith, zero, suc, common_steps, nat_tests, IsUtf8-from_ascii, list_all, IsAscii, IsUtf8, is_name_byte}
 
 pub small : (c : ℕ) → is_name_byte c ≡ true → c < 128
 small c h = grind (arith, nat_tests)

@@ -1,10 +1,6 @@
 -- Moments that are next due.
-use Rattle.std.proofs.Common.{◌≡◌, ◌∙◌, ◌↔◌, ℕ, ◌<◌, ◌≤◌, ◌+◌, ◌⊎◌, List, [], ◌∷◌, ◌++◌, length, take, get_or, min, inl, inr, sym, subst, refl, arith}
-use Rattle.std.proofs.lemmas.Bool.{cases_lt}
-use Rattle.std.proofs.lemmas.List.{take_more}
-use Rattle.std.proofs.lemmas.List.Elements.{Contains-append_cases, Contains-append_left, Contains-append_right}
-use Rattle.hn_base.specs.Exists.{Some! }
-use Rattle.hn_base.specs.Sooner.{IsSooner, IsOfElement}
+use Rattle.hn_base.proofs.Names.{◌≡◌, ◌∙◌, ◌↔◌, ℕ, ◌<◌, ◌≤◌, ◌+◌, ◌⊎◌, List, [], ◌∷◌, ◌++◌, length, take, get_or, min, inl, inr, sym, subst, refl, arith, cases_lt, take_more, Contains-append_cases}
+use Rattle.hn_base.proofs.Names.{Contains-append_left, Contains-append_right, Some!, IsSooner, IsOfElement}
 use Rattle.hn_base.proofs.AscendingLists.{nothing_in, Contains-head, Contains-one}
 use Rattle.hn_base.proofs.SomeExists.{some_then, some_least}
 

@@ -1,18 +1,11 @@
 -- Numbers in digits: how large they are, and that a written numeral is read as its number.
-use Rattle.std.proofs.Common.{◌≡◌, ℕ, zero, suc, ◌+◌, ◌*◌, ◌/◌, ◌%◌, ◌^◌, ◌<◌, ◌≤◌, List, [], ◌∷◌, ◌++◌, length, get_or, map, Option, Some, None, refl, sym, ap, subst, ◌∙◌, inl, inr, arith}
-use Rattle.std.specs.Prelude.{IfNone}
-use Rattle.std.specs.Char.{digit_value, digit_char}
-use Rattle.std.specs.Fmt.{decimal}
+use Rattle.hn_base.proofs.Names.{◌≡◌, ℕ, zero, suc, ◌+◌, ◌*◌, ◌/◌, ◌%◌, ◌^◌, ◌<◌, ◌≤◌, List, [], ◌∷◌, ◌++◌, length, get_or, map, Option, Some, None, refl, sym, ap, subst, ◌∙◌, inl, inr, arith, IfNone}
+use Rattle.hn_base.proofs.Names.{digit_value, digit_char, decimal, AllDigits, digits_value, digits_value_after, length-decimal-le, map-append, length-map, ne_eqb, cases_lt, nat_tests}
+use Rattle.hn_base.proofs.Names.{pow-le-pow_right, mod-eq_of_lt, numeral, IsShortNumeral, Lacks}
 use Rattle.std.specs.Int.Digits.{digits_of, number_from_digits_after, AllBelowBase}
-use Rattle.std.specs.Str.Parse.{AllDigits, digits_value, digits_value_after}
-use Rattle.std.proofs.lemmas.Fmt.{decimal_is_IsNumeral, length-decimal-le}
+use Rattle.std.proofs.lemmas.Fmt.{decimal_is_IsNumeral}
 use Rattle.std.proofs.lemmas.Int.Digits.{digits_value-lt, digits_of_step, length-digits_of_step, length-digits_of-le, all_below_base_digits_of, number_digits_of}
-use Rattle.std.proofs.lemmas.List.{map-append, length-map}
-use Rattle.std.proofs.lemmas.Bool.{ne_eqb, cases_lt}
-use Rattle.std.proofs.lemmas.Bool.Decides.{nat_tests}
-use Rattle.std.proofs.Math.Nat.{mul-le-mul_left, pow-le-pow_left, pow-le-pow_right, div-eq_of_lt, mod-eq_of_lt, lt-mul-div-succ}
-use Rattle.hn_base.specs.Numeral.{numeral, IsShortNumeral}
-use Rattle.hn_base.specs.Splits.{Lacks}
+use Rattle.std.proofs.Math.Nat.{mul-le-mul_left, pow-le-pow_left, div-eq_of_lt, lt-mul-div-succ}
 
 -- ---- reading
 

@@ -1,8 +1,5 @@
 -- Rules of which each has at most one result over one stream of words, and how they compose.
-use Rattle.std.proofs.Common.{◌≡◌, ◌∙◌, ◌⊎◌, ℕ, List, [], ◌∷◌, ◌++◌, Option, Some, None, length, get_or, ap, refl, sym, subst, inl, inr}
-use Rattle.std.proofs.lemmas.List.{append-nil}
-use Rattle.hn_base.specs.Rules.{RuleOf, Then, Each, OnSome, IsSoleBy}
-use Rattle.hn_base.specs.Words.{Begins}
+use Rattle.hn_base.proofs.Names.{◌≡◌, ◌∙◌, ◌⊎◌, ℕ, List, [], ◌∷◌, ◌++◌, Option, Some, None, length, get_or, ap, refl, sym, subst, inl, inr, append-nil, RuleOf, Then, Each, OnSome, IsSoleBy, Begins}
 use Rattle.hn_base.proofs.FirstWords.{begins_front, begins_along, same_taken}
 
 -- The words that were taken so far are known.

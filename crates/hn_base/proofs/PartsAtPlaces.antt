@@ -1,20 +1,8 @@
 -- Elements at their places, and lists seen by a part of each element.
-use Rattle.std.proofs.Common.{◌≡◌, ℕ, ◌<◌, ◌≤◌, List, [], ◌∷◌, ◌++◌, length, get_or, map, Option, Some, None, option_to_list, Ok, Err, Result, Ordering, MatchResult, Contains, refl, sym, ◌∙◌, ap}
-use Rattle.std.proofs.Common.{subst, ⊎_elim, arith, slice_get, suc, zero}
-use Rattle.std.specs.declared.cmp.Ordering.TheVariants.{Less, Equal, Greater}
-use Rattle.std.specs.Cmp.{IsTotalOrder}
-use Rattle.std.specs.List.{filter_map, cons_option}
-use Rattle.std.specs.List.Sorted.{IsStrictlySortedBy, IsSearchInRange, IsBinarySearchResult}
-use Rattle.std.specs.Option.{option_map}
-use Rattle.std.specs.Ordering.{on, nat_cmp}
-use Rattle.std.proofs.lemmas.Bool.{cases_lt}
-use Rattle.std.proofs.lemmas.Cmp.{on_total, tied_itself, nat_cmp_total}
-use Rattle.std.proofs.lemmas.List.{length-map}
-use Rattle.std.proofs.lemmas.List.Elements.{filter_map-append}
-use Rattle.std.proofs.lemmas.List.Sorted.{searchable_from_sorted}
-use Rattle.std.proofs.lemmas.Map.Keys.{below_from_sorted, Less-from_sorted}
-use Rattle.std.proofs.lemmas.Option.{slice_get-map, slice_get_read, slice_get-get_or, same_Some, none-some, get_or_from_slice_get, slice_get_within}
-use Rattle.hn_base.specs.Ascending.{IsExact}
+use Rattle.hn_base.proofs.Names.{◌≡◌, ℕ, ◌<◌, ◌≤◌, List, [], ◌∷◌, ◌++◌, length, get_or, map, Option, Some, None, option_to_list, Ok, Err, Result, Ordering, MatchResult, Contains, refl, sym, ◌∙◌, ap}
+use Rattle.hn_base.proofs.Names.{subst, ⊎_elim, arith, slice_get, suc, zero, Less, Equal, Greater, IsTotalOrder, filter_map, cons_option, IsStrictlySortedBy, IsSearchInRange, IsBinarySearchResult}
+use Rattle.hn_base.proofs.Names.{option_map, on, nat_cmp, cases_lt, on_total, tied_itself, nat_cmp_total, length-map, filter_map-append, searchable_from_sorted, below_from_sorted, Less-from_sorted}
+use Rattle.hn_base.proofs.Names.{slice_get-map, slice_get_read, slice_get-get_or, same_Some, none-some, get_or_from_slice_get, slice_get_within, IsExact}
 use Rattle.hn_base.proofs.AscendingLists.{sorted_from_strictly, sorted_parts, not_below_itself}
 use Rattle.hn_base.proofs.Elements.{one_of_apart}
 

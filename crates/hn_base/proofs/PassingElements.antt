@@ -1,10 +1,8 @@
 -- The elements that pass a test, and the first of them.
-use Rattle.std.proofs.Common.{◌≡◌, ◌≢◌, ◌<◌, ◌≤◌, ℕ, zero, suc, Bool, true, false, cond, List, [], ◌∷◌, length, map, Option, Some, None, ap, refl, get_or, arith, filter}
-use Rattle.std.specs.Prelude.{slice_set, position, nat_lt, if◌then◌else◌, All, find}
-use Rattle.std.specs.List.{position_or_len, list_any}
-use Rattle.std.proofs.lemmas.Bool.{ltb-false, cond_both, or_parts}
-use Rattle.std.proofs.lemmas.List.Sums.{fails_before_first}
-use Rattle.std.proofs.lemmas.List.Elements.{All-head, All-tail}
+use Rattle.hn_base.proofs.Names.{◌≡◌, ◌≢◌, ◌<◌, ◌≤◌, ℕ, zero, suc, Bool, true, false, cond, List, [], ◌∷◌, length, map, Option, Some, None, ap, refl, get_or, arith, filter, if◌then◌else◌, All, find}
+use Rattle.hn_base.proofs.Names.{position_or_len, list_any, ltb-false, cond_both, or_parts, fails_before_first, All-head, All-tail}
+use Rattle.hn_base.proofs.Names.{nat_lt}
+use Rattle.std.specs.Prelude.{slice_set, position}
 
 unreached : (n len : ℕ) → ◌≡◌ {A = Option ℕ} (cond (nat_lt n len) (Some n) None) None → len ≤ n
 unreached n len none = by_test (nat_lt n len) refl none

@@ -1,11 +1,10 @@
 -- What a `Past` owns says only how the machine stores it, so a function that makes one may name any list as its items.
-use mathlib.Core.Path.{refl}
-use mathlib.Core.List.{List, [], ◌∷◌}
+use Rattle.hn_base.proofs.Names.{refl, [], ◌∷◌, ‵, ◌$◌, RattleType}
+use mathlib.Core.List.{List}
 use seplogic.Ra.Ura.{Ura}
 use mir.Val.{Val, vstruct, vcons, vnil}
 use types.Logic.{Logic}
-use types.Kit.{Goal, Step, step, Item, ‵, ◌$◌}
-use denote.RattleType.{RattleType}
+use types.Kit.{Goal, Step, step, Item}
 use denote.Shadow.{pure_i}
 use Rattle.hn_base.specs.contracts.past.Past as past
 

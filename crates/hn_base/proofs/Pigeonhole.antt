@@ -1,11 +1,7 @@
 -- A list without repetition whose elements are all in another list is no longer than that.
-use Rattle.std.proofs.Common.{◌≡◌, ◌≤◌, Bool, List, length, Contains, Decides, Ordering}
-use Rattle.std.specs.Cmp.{IsEquivalence, IsTotalOrder, eq_by_cmp_equiv}
-use Rattle.std.specs.List.{IsDistinct}
+use Rattle.hn_base.proofs.Names.{◌≡◌, ◌≤◌, Bool, List, length, Contains, Decides, Ordering, IsEquivalence, IsTotalOrder, IsDistinct, IsStrictlySortedBy, IsDistinct-from_sorted, IsExact}
+use Rattle.std.specs.Cmp.{eq_by_cmp_equiv}
 use Rattle.std.proofs.lemmas.Map.Made.{length-le_from_is_member, is_member-Decides}
-use Rattle.std.specs.List.Sorted.{IsStrictlySortedBy}
-use Rattle.std.proofs.lemmas.Map.Keys.{IsDistinct-from_sorted}
-use Rattle.hn_base.specs.Ascending.{IsExact}
 use Rattle.hn_base.proofs.DecidingTests.{order_decides}
 
 pub length-le_from_Contains : {K : Type 0} {eq : K → K → Bool} → IsEquivalence eq → ((a b : K) → Decides (eq a b) (a ≡ b)) → (xs ys : List K) → IsDistinct eq xs

@@ -1,13 +1,7 @@
 -- Prefixes are known by their bits and their length: when two are one, and their order.
-use Rattle.std.proofs.Common.{◌≡◌, Bool, Decides, rules}
-use Rattle.std.specs.Prelude.{◌==◌, ◌&&◌}
-use Rattle.std.specs.Cmp.{IsTotalOrder}
-use Rattle.std.specs.Cmp.Rules.{comparing}
-use Rattle.std.specs.Ordering.{nat_cmp}
-use Rattle.hn_base.specs.Ascending.{IsExact}
+use Rattle.hn_base.proofs.Names.{◌≡◌, Bool, Decides, rules, ◌==◌, ◌&&◌, IsTotalOrder, comparing, nat_cmp, IsExact, PlainPrefix, prefix_cmp}
 use Rattle.hn_base.proofs.AscendingLists.{exact_nat, exact_then}
 use Rattle.hn_base.proofs.DecidingTests.{numbers_decide}
-use Rattle.hn_base.specs.Prefix.{PlainPrefix, prefix_cmp}
 
 pub same_prefix : (p q : PlainPrefix) → p.bits ≡ q.bits → p.len ≡ q.len → p ≡ q
 same_prefix p q bits len = λ i. record { bits = bits i; len = len i }

@@ -1,6 +1,7 @@
 -- What is known of a result.
-use Rattle.std.proofs.Common.{◌≡◌, ◌↔◌, Result, Ok, Err, MatchResult, IfOk, refl, sym, ap, subst, ◌∙◌}
-use Rattle.std.specs.Prelude.{IsOk, IsErr, OnErr}
+use Rattle.hn_base.proofs.Names.{◌≡◌, ◌↔◌, Result, Ok, Err, MatchResult, refl, sym, ap, subst, ◌∙◌, IsErr, OnErr}
+use Rattle.std.proofs.Common.{IfOk}
+use Rattle.std.specs.Prelude.{IsOk}
 
 pub not_ok : {A E : Type 0} (e : E) (x : A) → Err e ≡ Ok x → ⊥
 not_ok e x same = absurd cc

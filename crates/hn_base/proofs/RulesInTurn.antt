@@ -1,8 +1,6 @@
 -- Rules one after another, and the words that they take.
-use Rattle.std.proofs.Common.{◌≡◌, ◌∙◌, ◌<◌, ◌+◌, ℕ, List, [], ◌∷◌, ◌++◌, Option, Some, None, length, take, get_or, ap, refl, sym, subst}
-use Rattle.std.proofs.lemmas.List.{take_more}
-use Rattle.hn_base.specs.Rules.{RuleOf, Then, Each, OnSome, RanBy}
-use Rattle.hn_base.specs.Words.{IsAt}
+use Rattle.hn_base.proofs.Names.{◌≡◌, ◌∙◌, ◌<◌, ◌+◌, ℕ, List, [], ◌∷◌, ◌++◌, Option, Some, None, length, take, get_or, ap, refl, sym, subst, take_more, RuleOf, Then, Each, OnSome, IsAt}
+use Rattle.hn_base.specs.Rules.{RanBy}
 
 -- ---- a rule for each element, and for one more
 

@@ -1,6 +1,5 @@
 -- Rules that leave a part of what there is as it was, and how they compose.
-use Rattle.std.proofs.Common.{◌∙◌, List, [], ◌∷◌, Option, Some, None, ap}
-use Rattle.hn_base.specs.Rules.{RuleOf, Then, Each, OnSome, KeepsBy}
+use Rattle.hn_base.proofs.Names.{◌∙◌, List, [], ◌∷◌, Option, Some, None, ap, RuleOf, Then, Each, OnSome, KeepsBy}
 
 module _ {S P : Type 0} (part : S → P) where
   pub kept_then : (first second : RuleOf S) → KeepsBy part first → KeepsBy part second → KeepsBy part (Then first second)

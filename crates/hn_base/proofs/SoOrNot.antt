@@ -1,8 +1,6 @@
 -- What is decided: it is so, or it is not.
-use Rattle.std.proofs.Common.{◌≡◌, ◌⊎◌, ℕ, ◌≤◌, List, [], ◌∷◌, All, Contains, sym, subst, inl, inr, arith}
-use Rattle.std.proofs.lemmas.Bool.{cases_lt}
-use Rattle.std.proofs.lemmas.List.Elements.{All-contains}
-use Rattle.hn_base.specs.Byte.{IsByte}
+use Rattle.hn_base.proofs.Names.{◌≡◌, ◌⊎◌, ℕ, ◌≤◌, List, [], ◌∷◌, Contains, sym, subst, inl, inr, arith, cases_lt, All-contains, IsByte}
+use Rattle.hn_base.proofs.Names.{All}
 use Rattle.hn_base.proofs.AscendingLists.{Contains-head, Contains-tail, Contains-cases, nothing_in}
 use Rattle.hn_base.proofs.Elements.{all_of}
 

@@ -1,11 +1,8 @@
 -- What cannot be missing, and how it is found. A split into cases is free, whatever is asked.
-use Rattle.std.proofs.Common.{◌≡◌, ◌↔◌, ◌⊎◌, ℕ, ◌<◌, ◌≤◌, suc, zero, List, [], ◌∷◌, Contains, Option, None, Some, Ordering, sym, subst, arith, inl, inr}
-use Rattle.std.specs.List.Sorted.{IsStrictlySortedBy}
-use Rattle.std.proofs.lemmas.Bool.{cases_lt}
-use Rattle.std.proofs.lemmas.Map.Keys.{sorted_tail}
+use Rattle.hn_base.proofs.Names.{◌≡◌, ◌↔◌, ◌⊎◌, ℕ, ◌<◌, ◌≤◌, suc, zero, List, [], ◌∷◌, Contains, Option, None, Some, Ordering, sym, subst, arith, inl, inr, IsStrictlySortedBy, cases_lt, sorted_tail}
+use Rattle.hn_base.proofs.Names.{Some! }
 use Rattle.hn_base.proofs.AscendingLists.{Contains-head, Contains-tail, Contains-cases, below_head, nothing_in}
 use Rattle.hn_base.proofs.AscendingMade.{sorted_cons, sorted_none}
-use Rattle.hn_base.specs.Exists.{Some! }
 
 -- ---- one after another, and by cases
 

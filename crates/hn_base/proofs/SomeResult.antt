@@ -1,9 +1,6 @@
 -- Rules of which each has some result over one stream of words, where a fact holds before, and how they compose.
-use Rattle.std.proofs.Common.{◌≡◌, ◌∙◌, ◌⊎◌, ◌+◌, ℕ, Bool, true, false, List, [], ◌∷◌, ◌++◌, Option, Some, None, length, Contains, refl, sym, inl, inr}
-use Rattle.std.proofs.lemmas.List.{append-nil}
-use Rattle.hn_base.specs.Exists.{Some! }
-use Rattle.hn_base.specs.Rules.{RuleOf, Then, Each, OnSome, KeepsFact, IsTotalBy}
-use Rattle.hn_base.specs.Words.{Begins}
+use Rattle.hn_base.proofs.Names.{◌≡◌, ◌∙◌, ◌⊎◌, ◌+◌, ℕ, Bool, true, false, List, [], ◌∷◌, ◌++◌, Option, Some, None, length, Contains, refl, sym, inl, inr, append-nil, Some!, RuleOf, Then, Each}
+use Rattle.hn_base.proofs.Names.{OnSome, KeepsFact, IsTotalBy, Begins}
 use Rattle.hn_base.proofs.AscendingLists.{Contains-head, Contains-tail}
 use Rattle.hn_base.proofs.FirstWords.{begins_along, begins_both, begins_next, words_first}
 

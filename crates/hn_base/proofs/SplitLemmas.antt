@@ -1,8 +1,6 @@
 -- Where the first byte of a kind stands: in one place.
-use Rattle.std.proofs.Common.{◌≡◌, ◌≢◌, ℕ, ◌+◌, ◌<◌, List, [], ◌∷◌, ◌++◌, length, get_or, take, drop, refl, sym, ap, subst, ◌∙◌, take-append-drop}
-use Rattle.std.specs.List.{AllByRecursion}
-use Rattle.std.proofs.lemmas.List.{drop_more}
-use Rattle.hn_base.specs.Splits.{Lacks, SplitsAt}
+use Rattle.hn_base.proofs.Names.{◌≡◌, ◌≢◌, ℕ, ◌+◌, ◌<◌, List, [], ◌∷◌, ◌++◌, length, get_or, take, drop, refl, sym, ap, subst, ◌∙◌, AllByRecursion, drop_more, Lacks, SplitsAt}
+use Rattle.hn_base.proofs.Names.{take-append-drop}
 use Rattle.hn_base.proofs.EachByRecursion.{AllByRecursion-append, AllByRecursion-take_more, AllByRecursion-weaker}
 
 pub Lacks-append : (byte : ℕ) (xs ys : List ℕ) → Lacks byte xs → Lacks byte ys → Lacks byte (xs ++ ys)

@@ -1,9 +1,6 @@
 -- What was read of a source, and the bytes that the source has.
-use Rattle.std.proofs.Common.{◌<◌, ◌≤◌, ◌^◌, ℕ, List, Option, None, Some, length, inl, inr, subst, sym, ap, arith, length-append}
+use Rattle.hn_base.proofs.Names.{◌<◌, ◌≤◌, ◌^◌, ℕ, List, Option, None, Some, length, inl, inr, subst, sym, ap, arith, length-append, Consumes, cases_lt, IsWhole}
 use Rattle.std.specs.Prelude.{IfSome}
-use Rattle.std.specs.Io.KnownBytes.{Consumes}
-use Rattle.std.proofs.lemmas.Bool.{cases_lt}
-use Rattle.hn_base.specs.Input.{IsWhole}
 
 length_front : (whole : List ℕ) (after : Option (List ℕ)) (read : List ℕ) → Consumes (Some whole) after read → length read ≤ length whole
 length_front whole None read c = absurd c

@@ -1,7 +1,7 @@
 -- Bytes that are zero.
-use Rattle.std.proofs.Common.{◌≡◌, ℕ, List, ◌++◌, length, take, drop, replicate, All, refl, sym, ap, subst, ◌∙◌}
-use Rattle.std.proofs.lemmas.List.{same_lists, take-append-drop, take_at, length-replicate, get_or-replicate}
-use Rattle.std.proofs.lemmas.List.Elements.{All-replicate}
+use Rattle.hn_base.proofs.Names.{◌≡◌, ℕ, List, ◌++◌, length, take, drop, replicate, refl, sym, ap, subst, ◌∙◌, take-append-drop, take_at, length-replicate, get_or-replicate, All-replicate}
+use Rattle.hn_base.proofs.Names.{All}
+use Rattle.std.proofs.lemmas.List.{same_lists}
 
 -- bytes that are all zero
 pub zeros_are : (bytes : List ℕ) → All (λ byte. byte ≡ 0) bytes → bytes ≡ replicate (length bytes) 0

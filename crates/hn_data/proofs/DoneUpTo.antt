@@ -1,13 +1,10 @@
 -- What was done with the TLVs of bytes up to a place.
-use Rattle.std.proofs.Common.{◌≡◌, ℕ, ◌≤◌, List, [], ◌∷◌, ◌++◌, length, take, Result, Ok, Err, IfOk, IfErr}
-use Rattle.hn_tlv.specs.Grammar.{PlainTlv, IsTlvList, IsTlvAt}
+use Rattle.hn_base.proofs.Names.{◌≡◌, ℕ, ◌≤◌, List, [], ◌∷◌, ◌++◌, length, take, Result, Ok, Err}
+use Rattle.hn_data.proofs.Names.{PlainTlv, IsTlvList, IsTlvAt, IsItem, IsItemFault, plain_item, Decodes}
+use Rattle.std.proofs.Common.{IfOk, IfErr}
 use Rattle.hn_tlv.specs.Laws.{ListGrows}
 use Rattle.hn_typed.specs.declared.fault.ItemFault.{ItemFault}
 use Rattle.hn_typed.specs.declared.item.Item.{Item}
-use Rattle.hn_typed.specs.Table.{IsItem}
-use Rattle.hn_typed.specs.Fault.{IsItemFault}
-use Rattle.hn_typed.specs.View.{plain_item}
-use Rattle.hn_data.specs.Walk.{Decodes}
 
 -- so it is of the TLVs up to a place
 pub record IsDoneTo (P : List PlainTlv → Type 0) (bytes : List ℕ) (place : ℕ) : Type 0 where

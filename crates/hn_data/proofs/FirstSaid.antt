@@ -1,10 +1,8 @@
 -- The first version and the first interval among items.
-use Rattle.std.proofs.Common.{◌≡◌, ◌↔◌, ℕ, Bool, true, false, List, [], ◌∷◌, Option, Some, None, IsSome, refl, sym, ap, ◌∙◌, cond, ◌==◌}
-use Rattle.std.specs.Option.{option_map}
-use Rattle.std.specs.List.{filter_map, find, cons_option}
-use Rattle.hn_typed.specs.Item.{PlainItem, PlainCaps}
-use Rattle.hn_data.specs.Items.{AreItems, first_of}
-use Rattle.hn_data.specs.Said.{version_of, interval_at, HasVersion}
+use Rattle.hn_base.proofs.Names.{◌≡◌, ◌↔◌, ℕ, Bool, true, false, List, [], ◌∷◌, Option, Some, None, IsSome, refl, sym, ap, ◌∙◌, cond, option_map, filter_map, cons_option}
+use Rattle.hn_data.proofs.Names.{◌==◌, PlainItem, PlainCaps, AreItems, first_of, version_of}
+use Rattle.std.specs.List.{find}
+use Rattle.hn_data.specs.Said.{interval_at, HasVersion}
 use Rattle.hn_data.specs.declared.said.Interval.{Interval}
 use Rattle.hn_data.proofs.OneReading.{HasOneReading}
 

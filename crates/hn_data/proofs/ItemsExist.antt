@@ -1,13 +1,9 @@
 -- Numbers are node data with items, or they are none.
-use Rattle.std.proofs.Common.{◌⊎◌, ℕ, List, [], ◌∷◌, refl, inl, inr}
+use Rattle.hn_base.proofs.Names.{◌⊎◌, ℕ, List, [], ◌∷◌, refl, inl, inr}
+use Rattle.hn_data.proofs.Names.{PlainTlv, IsTlvList, PlainItem, IsItem, IsItemFault, IsReading}
 use Rattle.hn_base.proofs.SoOrNot.{bytes_or_not}
-use Rattle.hn_tlv.specs.Grammar.{PlainTlv, IsTlvList}
 use Rattle.hn_tlv.specs.Laws.{ListIsOfBytes, ListHasNoFirstFault, ListOrFirstFault}
-use Rattle.hn_typed.specs.Item.{PlainItem}
-use Rattle.hn_typed.specs.Table.{IsItem}
-use Rattle.hn_typed.specs.Fault.{IsItemFault}
 use Rattle.hn_typed.specs.Laws.{ItemHasNoFault, ItemOrFault}
-use Rattle.hn_data.specs.Items.{IsReading}
 use Rattle.hn_data.specs.Laws.{ItemsOrNone}
 
 module _ (of_bytes : ListIsOfBytes) (no_list : ListHasNoFirstFault) (list_or_fault : ListOrFirstFault)

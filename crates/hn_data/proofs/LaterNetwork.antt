@@ -1,9 +1,6 @@
 -- The same network at different moments.
-use Rattle.std.proofs.Common.{◌≡◌, ◌∙◌, ℕ, List, [], ◌∷◌, Contains, map, refl, sym, ap, subst}
-use Rattle.std.specs.Ordering.{nat_cmp}
-use Rattle.std.specs.List.Sorted.{IsStrictlySortedBy}
-use Rattle.hn_data.specs.declared.view.Entry.{Entry}
-use Rattle.hn_data.specs.View.{ids_of}
+use Rattle.hn_base.proofs.Names.{◌≡◌, ◌∙◌, ℕ, List, [], ◌∷◌, Contains, map, refl, sym, ap, subst, nat_cmp, IsStrictlySortedBy}
+use Rattle.hn_data.proofs.Names.{Entry, ids_of}
 use Rattle.hn_data.specs.Later.{aged_entry}
 use Rattle.hn_data.specs.Laws.{LaterIsANetwork}
 

@@ -1,3 +1,4 @@
+mod Names
 pub mod PeerPlaces
 pub mod OneReading
 pub mod OneMoreItem

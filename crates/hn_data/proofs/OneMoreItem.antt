@@ -1,18 +1,10 @@
 -- What one more item adds to what is kept.
-use Rattle.std.proofs.Common.{◌≡◌, ◌↔◌, ℕ, ◌⊎◌, inl, inr, ⊎_elim, Bool, IsTrue, true, false, ◌||◌, List, [], ◌∷◌, ◌++◌, Option, Some, None, option_to_list, Result, Ok, Err, Contains, refl, sym, ap, subst, ◌∙◌, append-nil, append_assoc}
-use Rattle.std.specs.Prelude.{OnOk}
-use Rattle.std.specs.Option.{option_map, option_or}
-use Rattle.std.specs.List.{filter_map}
-use Rattle.std.proofs.lemmas.List.Elements.{Contains-append_left, Contains-append_right, Contains-append_cases, filter_map-append}
-use Rattle.hn_base.proofs.AscendingLists.{Contains-head}
-use Rattle.hn_base.proofs.PartsAtPlaces.{filter_map-push}
-use Rattle.hn_tlv.specs.Grammar.{PlainTlv}
-use Rattle.hn_typed.specs.Item.{PlainItem, PlainCaps, External}
-use Rattle.hn_typed.specs.Table.{IsItem}
-use Rattle.hn_data.specs.Items.{IsReading, AreItems, HasItems, first_of}
-use Rattle.hn_data.specs.Said.{caps_of, version_of}
-use Rattle.hn_data.specs.Delegations.{delegation_of, external_of, IsDelegatedIn, IsConnected, AreInsideInOrder}
-use Rattle.hn_data.specs.declared.said.Delegation.{Delegation}
+use Rattle.hn_base.proofs.Names.{◌≡◌, ◌↔◌, ℕ, ◌⊎◌, inl, inr, ⊎_elim, Bool, IsTrue, true, false, List, [], ◌∷◌, ◌++◌, Option, Some, None, option_to_list, Result, Ok, Err, Contains, refl, sym, ap}
+use Rattle.hn_base.proofs.Names.{subst, ◌∙◌, append_assoc, OnOk, option_map, option_or, filter_map, Contains-append_left, Contains-append_right, Contains-append_cases, filter_map-append}
+use Rattle.hn_data.proofs.Names.{Contains-head, filter_map-push, PlainTlv, PlainItem, PlainCaps, External, IsItem, IsReading, AreItems, HasItems, first_of, version_of, delegation_of, external_of}
+use Rattle.hn_data.proofs.Names.{IsDelegatedIn, IsConnected, AreInsideInOrder, Delegation}
+use Rattle.std.proofs.Common.{◌||◌, append-nil}
+use Rattle.hn_data.specs.Said.{caps_of}
 use Rattle.hn_data.proofs.OneReading.{HasOneReading}
 use Rattle.hn_base.proofs.AscendingLists.{Contains-one}
 

@@ -1,10 +1,7 @@
 -- Readings of lists of TLVs are unique.
-use Rattle.std.proofs.Common.{◌≡◌, ℕ, List, [], ◌∷◌, ◌↔◌, inl, inr, sym, ◌∙◌, subst, Contains}
-use Rattle.hn_tlv.specs.Grammar.{PlainTlv}
+use Rattle.hn_base.proofs.Names.{◌≡◌, ℕ, List, [], ◌∷◌, ◌↔◌, inl, inr, sym, ◌∙◌, subst, Contains}
+use Rattle.hn_data.proofs.Names.{PlainTlv, PlainItem, ItemIsUnique, IsReading, AreItems, HasItems}
 use Rattle.hn_tlv.specs.Laws.{ListIsUnique}
-use Rattle.hn_typed.specs.Item.{PlainItem}
-use Rattle.hn_typed.specs.Laws.{ItemIsUnique}
-use Rattle.hn_data.specs.Items.{IsReading, AreItems, HasItems}
 
 -- bytes have at most one list of items
 abbrev pub HasOneReading : List ℕ → Type 0

@@ -1,15 +1,12 @@
 -- Where the peers of nodes stand.
-use Rattle.std.proofs.Common.{◌≡◌, ℕ, List, Some, Ok, Err, Result, MatchResult, sym, ◌∙◌, ap, subst, slice_get, Option, IfSome, IfNone}
-use Rattle.std.specs.List.Sorted.{IsStrictlySortedBy}
-use Rattle.std.specs.Ordering.{nat_cmp}
+use Rattle.hn_base.proofs.Names.{◌≡◌, ℕ, List, Some, Ok, Err, Result, MatchResult, sym, ◌∙◌, ap, subst, slice_get, Option, IfSome, IsStrictlySortedBy, nat_cmp, same_Some}
+use Rattle.hn_data.proofs.Names.{part_is, ids_of, Entry}
+use Rattle.std.proofs.Common.{IfNone}
 use Rattle.std.specs.Result.{result_ok}
-use Rattle.std.proofs.lemmas.Option.{same_Some}
-use Rattle.hn_base.proofs.PartsAtPlaces.{part_stands, part_is, one_place_of}
+use Rattle.hn_base.proofs.PartsAtPlaces.{part_stands, one_place_of}
 use Rattle.hn_data.specs.Links.{IsPeerAt}
 use Rattle.hn_data.specs.Peers.{IsLinked}
-use Rattle.hn_data.specs.View.{ids_of}
 use Rattle.hn_data.specs.declared.said.PeerLink.{PeerLink}
-use Rattle.hn_data.specs.declared.view.Entry.{Entry}
 
 -- what the `Ok` of a search says
 pub said_of_ok : (r : Result ℕ ℕ) (o : Option ℕ) (P : ℕ → Type 0) (Q : Type 0) → o ≡ result_ok r → MatchResult r P (λ _. Q) → IfSome o P × IfNone o Q

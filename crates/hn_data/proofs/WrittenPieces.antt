@@ -1,18 +1,16 @@
 -- Pieces that are the TLVs of items, joined and read again.
-use Rattle.std.proofs.Common.{◌≡◌, ◌↔◌, ◌∙◌, ℕ, ◌<◌, ◌^◌, List, [], ◌∷◌, ◌++◌, length, replicate, All, Contains, refl, sym, ap, subst, inl, ⊎_elim, arith, lit<}
-use Rattle.std.specs.List.{concat}
-use Rattle.std.proofs.lemmas.List.{append-nil}
-use Rattle.std.proofs.lemmas.List.Elements.{All-contains, All-weaker, All-contains_itself, All-tail, All-head, Contains-append_left, Contains-append_right}
-use Rattle.hn_base.specs.Byte.{IsByte}
-use Rattle.hn_base.proofs.AscendingLists.{nothing_in, Contains-head, Contains-tail, Contains-cases}
-use Rattle.hn_tlv.specs.Grammar.{PlainTlv, IsTlv, IsTlvList, header, unpadded, padding, spelling}
+use Rattle.hn_base.proofs.Names.{◌≡◌, ◌↔◌, ◌∙◌, ℕ, ◌<◌, ◌^◌, List, [], ◌∷◌, ◌++◌, length, replicate, Contains, refl, sym, ap, subst, inl, ⊎_elim, arith, lit<, concat, append-nil, All-contains}
+use Rattle.hn_base.proofs.Names.{All-weaker, All-contains_itself, All-tail, All-head, Contains-append_left, Contains-append_right, IsByte}
+use Rattle.hn_data.proofs.Names.{Contains-head, PlainTlv, IsTlvList, PlainItem, IsItem, ItemIsUnique, IsReading, HasItems, AreBytes}
+use Rattle.std.proofs.Common.{All}
+use Rattle.hn_base.proofs.AscendingLists.{nothing_in, Contains-tail, Contains-cases}
+use Rattle.hn_tlv.specs.Grammar.{IsTlv, header, unpadded, padding, spelling}
 use Rattle.hn_tlv.specs.Laws.{SpellingIsPrefixFree}
-use Rattle.hn_typed.specs.Item.{PlainItem, Other}
-use Rattle.hn_typed.specs.Table.{IsItem, InRange}
+use Rattle.hn_typed.specs.Item.{Other}
+use Rattle.hn_typed.specs.Table.{InRange}
 use Rattle.hn_typed.specs.Written.{kind_of, value_of, tlv_of, IsWritable}
-use Rattle.hn_typed.specs.Laws.{ItemIsUnique, WrittenIsRead}
-use Rattle.hn_data.specs.Items.{IsReading, HasItems}
-use Rattle.hn_data.specs.OwnData.{AreBytes, IsEncoded, IsWrittenIn, IsAscendingSet}
+use Rattle.hn_typed.specs.Laws.{WrittenIsRead}
+use Rattle.hn_data.specs.OwnData.{IsEncoded, IsWrittenIn, IsAscendingSet}
 
 front : {A : Type 0} (P : A → Type 0) (xs ys : List A) → All P (xs ++ ys) → All P xs
 front P xs ys all = All-weaker (Contains xs) P (λ x h. All-contains P (xs ++ ys) x all (Contains-append_left xs ys x h)) xs (All-contains_itself xs)

@@ -1,5 +1,6 @@
 -- The text of an item, put together.
-use Rattle.std.proofs.Common.{◌≡◌, List, ℕ, ◌++◌, Result, Ok, Err, OnOk, ap, ◌∙◌, append_assoc}
+use Rattle.hn_base.proofs.Names.{◌≡◌, List, ℕ, ◌++◌, Result, Ok, Err, ap, ◌∙◌, append_assoc}
+use Rattle.hn_decode.proofs.Names.{OnOk}
 
 -- what was added is the same text, grouped otherwise
 pub added : {E : Type 0} (result : Result (Unit {0}) E) (old new text said : List ℕ) → text ≡ said → OnOk result (new ≡ old ++ text) → OnOk result (new ≡ old ++ said)

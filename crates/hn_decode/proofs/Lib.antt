@@ -1,3 +1,4 @@
+mod Names
 pub mod ItemLemmas
 pub mod Within
 pub mod LineLemmas

@@ -1,13 +1,9 @@
 -- The line of a TLV, put together.
-use Rattle.std.proofs.Common.{◌≡◌, ℕ, ◌-◌, List, ◌++◌, Option, Some, None, Result, Ok, Err, IfOk, IfSome, IfNone, codes, refl, append_assoc, inl, inr}
-use Rattle.std.specs.Borrow.{Bor}
-use Rattle.hn_tlv.specs.Grammar.{PlainTlv}
-use Rattle.hn_typed.specs.Item.{PlainItem}
-use Rattle.hn_typed.specs.Table.{IsItem}
+use Rattle.hn_base.proofs.Names.{◌≡◌, ℕ, ◌-◌, List, ◌++◌, Option, Some, None, Result, Ok, Err, IfSome, codes, refl, append_assoc, inl, inr, Bor}
+use Rattle.hn_decode.proofs.Names.{PlainTlv, PlainItem, IsItem, item_text, bad_text, within, within_name, named_bytes, line, HasLines, IsLineAbove, IsLineAlone, GrowsByText}
+use Rattle.std.proofs.Common.{IfOk, IfNone}
 use Rattle.hn_typed.specs.Fault.{IsItemFault}
-use Rattle.hn_decode.specs.ItemText.{item_text, bad_text}
-use Rattle.hn_decode.specs.Line.{within, within_name, named_bytes, line_start, line, HasLines, IsLineAbove, IsLineAlone}
-use Rattle.hn_decode.specs.Nested.{GrowsByText}
+use Rattle.hn_decode.specs.Line.{line_start}
 
 bad_alone_is : (below place : ℕ) (tlv : PlainTlv) (why : ℕ) (old : List ℕ) → IsItemFault tlv why
     → GrowsByText (IsLineAlone below place tlv) old (((old ++ line_start (7 - below) place tlv) ++ bad_text why tlv.value) ++ codes "\n")

@@ -1,13 +1,9 @@
 -- A datagram has at most one text.
-use Rattle.std.proofs.Common.{◌≡◌, ℕ, zero, suc, ◌+◌, List, [], ◌∷◌, ◌++◌, length, codes, sym, ap, subst, ◌∙◌, inl, inr}
-use Rattle.std.specs.Fmt.{decimal}
-use Rattle.hn_tlv.specs.Grammar.{PlainTlv, tlv_size, FirstFault}
-use Rattle.hn_tlv.specs.Laws.{ListIsUnique, ListHasNoFirstFault}
-use Rattle.hn_typed.specs.Item.{PlainItem}
+use Rattle.hn_base.proofs.Names.{◌≡◌, ℕ, zero, suc, ◌+◌, List, [], ◌∷◌, ◌++◌, length, codes, sym, ap, subst, ◌∙◌, inl, inr, decimal}
+use Rattle.hn_decode.proofs.Names.{PlainTlv, tlv_size, FirstFault, ListIsUnique, ListHasNoFirstFault, PlainItem, item_text, bad_text, within, within_name, named_bytes, line, HasLines, IsLineAlone}
+use Rattle.hn_decode.proofs.Names.{TextsInOrder, ShowsList, place_within, IsDecodeText}
 use Rattle.hn_typed.specs.Laws.{ItemIsUnique, ItemHasNoFault, ItemFaultIsUnique}
-use Rattle.hn_decode.specs.ItemText.{item_text, bad_text}
-use Rattle.hn_decode.specs.Line.{within, within_name, named_bytes, line, HasLines, IsLineAlone}
-use Rattle.hn_decode.specs.Nested.{TextsInOrder, ShowsList, place_within, ShowsWithin, Shows, IsDecodeText}
+use Rattle.hn_decode.specs.Nested.{ShowsWithin, Shows}
 
 -- there is one text at most for a TLV at a place
 abbrev IsFunction : (ℕ → PlainTlv → List ℕ → Type 0) → Type 0

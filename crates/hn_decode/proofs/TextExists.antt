@@ -1,19 +1,14 @@
 -- A datagram that is a list of TLVs has a text.
-use Rattle.std.proofs.Common.{◌≡◌, ℕ, zero, suc, ◌+◌, ◌-◌, ◌<◌, ◌⊎◌, inl, inr, List, [], ◌∷◌, ◌++◌, length, drop, All, refl, ap, subst, ◌∙◌, arith}
-use Rattle.std.proofs.lemmas.Bool.{cases_lt}
-use Rattle.std.proofs.lemmas.List.{drop_at}
-use Rattle.std.proofs.lemmas.List.Elements.{All-from_recursion, recursion_from_All}
-use Rattle.hn_base.specs.Byte.{IsByte}
+use Rattle.hn_base.proofs.Names.{◌≡◌, ℕ, zero, suc, ◌+◌, ◌-◌, ◌<◌, ◌⊎◌, inl, inr, List, [], ◌∷◌, ◌++◌, length, drop, refl, ap, subst, ◌∙◌, arith, cases_lt, drop_at, All-from_recursion}
+use Rattle.hn_base.proofs.Names.{recursion_from_All, IsByte}
+use Rattle.hn_decode.proofs.Names.{PlainTlv, tlv_size, IsTlvList, HasTlvs, ListIsUnique, ListHasNoFirstFault, PlainItem, NodeState, IsItem, item_text, bad_text, within, within_name, named_bytes, line}
+use Rattle.hn_decode.proofs.Names.{HasLines, HoldsNodeData, IsLineAbove, TextsInOrder, ShowsList, place_within, Shows, tlvs_line, IsDecodeText, IsTextTo}
+use Rattle.std.proofs.Common.{All}
 use Rattle.hn_base.proofs.EachByRecursion.{AllByRecursion-drop}
-use Rattle.hn_tlv.specs.Grammar.{PlainTlv, IsTlv, tlv_size, IsTlvList, HasTlvs}
-use Rattle.hn_tlv.specs.Laws.{ListIsUnique, ListHasNoFirstFault, ListOrFirstFault}
-use Rattle.hn_typed.specs.Item.{PlainItem, NodeState}
+use Rattle.hn_tlv.specs.Grammar.{IsTlv}
+use Rattle.hn_tlv.specs.Laws.{ListOrFirstFault}
 use Rattle.hn_typed.specs.Fields.{word}
-use Rattle.hn_typed.specs.Table.{IsItem}
 use Rattle.hn_typed.specs.Laws.{ItemOrFault}
-use Rattle.hn_decode.specs.ItemText.{item_text, bad_text}
-use Rattle.hn_decode.specs.Line.{within, within_name, named_bytes, line, HasLines, HoldsNodeData, IsLineAbove}
-use Rattle.hn_decode.specs.Nested.{TextsInOrder, ShowsList, place_within, Shows, tlvs_line, IsDecodeText, IsTextTo}
 use Rattle.hn_decode.proofs.Within.{list_within}
 use Rattle.hn_decode.proofs.TextSoFar.{shows_line, shows_within}
 

@@ -1,12 +1,11 @@
 -- The text of a list of TLVs, TLV by TLV.
-use Rattle.std.proofs.Common.{◌≡◌, ℕ, zero, suc, ◌+◌, ◌-◌, ◌≤◌, List, [], ◌∷◌, ◌++◌, length, drop, refl, sym, ap, subst, ◌∙◌, append_assoc, arith, inl, inr, Result, Ok, Err, OnOk, IfErr, IsOk}
-use Rattle.std.proofs.lemmas.List.{append-nil, drop_all}
-use Rattle.hn_tlv.specs.declared.fault.TlvFault.{TlvFault}
-use Rattle.hn_tlv.specs.Grammar.{PlainTlv, tlv_size, HasTlvs, IsTlvAt, IsFault, FirstFault}
-use Rattle.hn_tlv.specs.Laws.{ListSplits, ListHasNoFirstFault}
-use Rattle.hn_typed.specs.Item.{PlainItem}
-use Rattle.hn_decode.specs.Line.{within, IsLineAbove, IsLineAlone}
-use Rattle.hn_decode.specs.Nested.{TextsInOrder, ShowsList, place_within, Shows, IsShownTo, GrowsByText}
+use Rattle.hn_base.proofs.Names.{◌≡◌, ℕ, zero, suc, ◌+◌, ◌-◌, ◌≤◌, List, [], ◌∷◌, ◌++◌, length, drop, refl, sym, ap, subst, ◌∙◌, append_assoc, arith, inl, inr, Result, Ok, Err, append-nil, drop_all}
+use Rattle.hn_decode.proofs.Names.{OnOk, TlvFault, PlainTlv, tlv_size, HasTlvs, FirstFault, ListHasNoFirstFault, PlainItem, within, IsLineAbove, IsLineAlone, TextsInOrder, ShowsList, place_within}
+use Rattle.hn_decode.proofs.Names.{IsShownTo, GrowsByText}
+use Rattle.std.proofs.Common.{IfErr, IsOk}
+use Rattle.hn_tlv.specs.Grammar.{IsTlvAt, IsFault}
+use Rattle.hn_tlv.specs.Laws.{ListSplits}
+use Rattle.hn_decode.specs.Nested.{Shows}
 
 pub shown_none : (Shows : ℕ → PlainTlv → List ℕ → Type 0) (place : ℕ) (bytes : List ℕ) → HasTlvs bytes → IsShownTo Shows place bytes 0 []
 shown_none Shows place bytes list = record {

@@ -1,8 +1,6 @@
 -- The text of a datagram.
-use Rattle.std.proofs.Common.{ℕ, List, ◌++◌, length, ap}
-use Rattle.hn_tlv.specs.Grammar.{PlainTlv, IsTlvList}
-use Rattle.hn_tlv.specs.Laws.{ListIsUnique}
-use Rattle.hn_decode.specs.Nested.{ShowsList, Shows, tlvs_line, IsDecodeText}
+use Rattle.hn_base.proofs.Names.{ℕ, List, ◌++◌, length, ap}
+use Rattle.hn_decode.proofs.Names.{PlainTlv, IsTlvList, ListIsUnique, ShowsList, Shows, tlvs_line, IsDecodeText}
 
 -- the first line and the lines of the TLVs
 pub whole_text : ListIsUnique → (bytes lines : List ℕ) (tlvs : List PlainTlv) → IsTlvList tlvs bytes → ShowsList (Shows 7) 0 bytes lines

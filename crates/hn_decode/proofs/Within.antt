@@ -1,13 +1,13 @@
 -- What lies within an item is no longer than the TLV's value.
-use Rattle.std.proofs.Common.{ℕ, ◌≤◌, List, [], ◌++◌, length, replicate, refl, ap, arith, inl, inr}
+use Rattle.hn_base.proofs.Names.{ℕ, ◌≤◌, List, [], ◌++◌, length, replicate, refl, ap, arith, inl, inr}
+use Rattle.hn_decode.proofs.Names.{PlainTlv, HasTlvs, PlainItem, NodeState, IsItem, within, HoldsNodeData}
 use Rattle.std.proofs.lemmas.List.{length-append}
-use Rattle.hn_tlv.specs.Grammar.{PlainTlv, padding, HasTlvs}
-use Rattle.hn_typed.specs.Item.{PlainItem, NodeState, Version, Other}
+use Rattle.hn_tlv.specs.Grammar.{padding}
+use Rattle.hn_typed.specs.Item.{Version, Other}
 use Rattle.hn_typed.specs.Fields.{ThenSubs}
 use Rattle.hn_typed.specs.Shape.{After, Subs, Text, Anything, shape, fields_bytes}
-use Rattle.hn_typed.specs.Table.{IsValue, IsItem}
+use Rattle.hn_typed.specs.Table.{IsValue}
 use Rattle.hn_typed.specs.Written.{bytes_after, AreTlvs, tail_of, HasTlvsAfter}
-use Rattle.hn_decode.specs.Line.{within, HoldsNodeData}
 
 then_subs_fit : (len : ℕ) (after subs : List ℕ) → ThenSubs len after subs → length subs ≤ length after
 then_subs_fit len after subs (_, inl none) = omega (arith, ap length none.1)

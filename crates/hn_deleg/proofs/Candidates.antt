@@ -1,20 +1,9 @@
 -- Usable prefixes are determined by the candidates, and what is preferred by the announcements.
-use Rattle.std.proofs.Common.{◌≡◌, ◌↔◌, ℕ, ◌+◌, ◌<◌, ◌≤◌, List, [], ◌∷◌, ◌++◌, length, Contains, sym, subst, ⊎_elim, arith}
-use Rattle.std.specs.Prelude.{All}
-use Rattle.std.specs.declared.cmp.Ordering.TheVariants.{Less}
-use Rattle.std.proofs.lemmas.List.{length-append, length-map}
-use Rattle.std.proofs.lemmas.List.Elements.{All-contains, Contains-push_cases}
-use Rattle.hn_base.proofs.AscendingLists.{ascending_unique, Contains-from_map, sorted_push, not_both}
-use Rattle.hn_base.proofs.Pigeonhole.{no_longer}
-use Rattle.hn_base.proofs.Prefixes.{prefix_total, exact_prefix}
-use Rattle.hn_base.specs.Prefix.{PlainPrefix, prefix_cmp}
-use Rattle.hn_data.specs.Later.{aged_entry}
-use Rattle.hn_data.specs.View.{PlainView}
-use Rattle.hn_data.specs.declared.view.Entry.{Entry}
-use Rattle.hn_deleg.specs.declared.delegated.Delegated.{Delegated}
+use Rattle.hn_base.proofs.Names.{◌≡◌, ◌↔◌, ℕ, ◌+◌, ◌<◌, ◌≤◌, List, [], ◌∷◌, ◌++◌, length, Contains, sym, subst, ⊎_elim, arith, All, Less, length-map, All-contains, Contains-push_cases, PlainPrefix}
+use Rattle.hn_base.proofs.Names.{prefix_cmp}
+use Rattle.hn_deleg.proofs.Names.{length-append, ascending_unique, Contains-from_map, sorted_push, not_both, no_longer, prefix_total, exact_prefix, aged_entry, PlainView, Entry, Delegated, remaining}
+use Rattle.hn_deleg.proofs.Names.{IsAnnounced, IsAnnouncedPrefix, prefixes_of, IsOutermost, HasLifetimes, AreUsable}
 use Rattle.hn_deleg.specs.Candidates.{IsPreferred, SameCandidatesSameUsed, PreferredIsAnnounced, PreferredWasSo}
-use Rattle.hn_deleg.specs.Live.{remaining, IsAnnounced, IsAnnouncedPrefix}
-use Rattle.hn_deleg.specs.Used.{prefixes_of, IsOutermost, HasLifetimes, AreUsable}
 use Rattle.hn_deleg.proofs.LaterUsable.{remaining_before}
 use Rattle.hn_deleg.proofs.OneUsableList.{outermost_of}
 

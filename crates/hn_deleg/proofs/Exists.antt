@@ -1,31 +1,18 @@
 -- A view has a list of usable prefixes.
-use Rattle.std.proofs.Common.{◌≡◌, ◌∙◌, ◌⊎◌, ◌↔◌, ℕ, ◌+◌, ◌≤◌, List, [], ◌∷◌, ◌++◌, Option, Some, None, length, take, get_or, slice_get, min, max, Contains, refl, sym, ap, subst, inl, inr, suc}
-use Rattle.std.proofs.Common.{zero, arith}
-use Rattle.std.specs.Prelude.{All}
-use Rattle.std.specs.List.{filter_map}
-use Rattle.std.specs.List.Sorted.{IsStrictlySortedBy}
-use Rattle.std.proofs.lemmas.Bool.{cases_lt}
-use Rattle.std.proofs.lemmas.List.{take_all}
-use Rattle.std.proofs.lemmas.List.Elements.{All-contains, Contains-append_left, Contains-append_right, Contains-append_cases}
-use Rattle.std.proofs.lemmas.Option.{slice_get-get_or, same_Some, none-some}
-use Rattle.hn_base.specs.Prefix.{PlainPrefix, IsPrefix, IsWithin, last_address, prefix_cmp}
-use Rattle.hn_base.proofs.AscendingLists.{Contains-head, Contains-tail, Contains-cases, Contains-map, nothing_in}
+use Rattle.hn_base.proofs.Names.{◌≡◌, ◌∙◌, ◌⊎◌, ◌↔◌, ℕ, ◌+◌, ◌≤◌, List, [], ◌∷◌, ◌++◌, Option, Some, None, length, take, get_or, slice_get, min, max, Contains, refl, sym, ap, subst, inl, inr, suc}
+use Rattle.hn_base.proofs.Names.{zero, arith, All, filter_map, IsStrictlySortedBy, cases_lt, take_all, All-contains, Contains-append_left, Contains-append_right, Contains-append_cases}
+use Rattle.hn_base.proofs.Names.{slice_get-get_or, same_Some, none-some, PlainPrefix, IsPrefix, IsWithin, last_address, prefix_cmp}
+use Rattle.hn_deleg.proofs.Names.{Contains-head, Contains-tail, Contains-cases, Contains-map, nothing_in, all_of, in_filter_map, from_filter_map, prefix_total, exact_prefix, PlainItem, HasDelegation}
+use Rattle.hn_deleg.proofs.Names.{delegation_of, HasVersion, PlainView, Delegation, Entry, Delegated, live_of, HasPrefixes, IsLiveAt, IsLiveIn, AreOutermost, IsCovered, IsReadyFor, HasLifetimesIn}
+use Rattle.hn_deleg.proofs.Names.{prefixes_of, AreUsable}
 use Rattle.hn_base.proofs.AscendingMade.{ascending_of}
 use Rattle.hn_base.proofs.SoOrNot.{Decided, one_or_none}
 use Rattle.hn_base.proofs.DecidingTests.{cases_by}
-use Rattle.hn_base.proofs.Elements.{all_of, in_filter_map, from_filter_map}
-use Rattle.hn_base.proofs.Prefixes.{prefix_total, exact_prefix}
-use Rattle.hn_typed.specs.Item.{PlainItem, PlainCaps, External}
-use Rattle.hn_data.specs.Delegations.{IsDelegatedIn, HasDelegation, delegation_of}
+use Rattle.hn_typed.specs.Item.{PlainCaps, External}
+use Rattle.hn_data.specs.Delegations.{IsDelegatedIn}
 use Rattle.hn_data.specs.Items.{AreItems, HasItems}
 use Rattle.hn_data.specs.Laws.{ItemsAreUnique, ItemsOrNone}
-use Rattle.hn_data.specs.Said.{HasVersion, version_of}
-use Rattle.hn_data.specs.View.{PlainView}
-use Rattle.hn_data.specs.declared.said.Delegation.{Delegation}
-use Rattle.hn_data.specs.declared.view.Entry.{Entry}
-use Rattle.hn_deleg.specs.declared.delegated.Delegated.{Delegated}
-use Rattle.hn_deleg.specs.Steps.{live_of, HasPrefixes, IsLiveAt, IsLiveIn, AreOutermost, IsCovered, IsReadyFor, HasLifetimesIn}
-use Rattle.hn_deleg.specs.Used.{prefixes_of, AreUsable}
+use Rattle.hn_data.specs.Said.{version_of}
 use Rattle.hn_deleg.proofs.Filtered.{IsFiltered, filtered_none, ready_at, filtered_same_at, filtered_more_at, outermost_from_filtered}
 use Rattle.hn_deleg.proofs.Fits.{candidate_is_prefix}
 use Rattle.hn_deleg.proofs.Live.{live_added, live_same}

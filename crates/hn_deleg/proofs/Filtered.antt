@@ -1,21 +1,12 @@
 -- Prefixes in ascending order, and which are inside no other.
-use Rattle.std.proofs.Common.{◌≡◌, ◌⊎◌, ℕ, ◌+◌, ◌-◌, ◌<◌, ◌≤◌, List, [], ◌∷◌, ◌++◌, length, get_or, take, Contains, Some, sym, ◌∙◌, ap, subst, inl, inr, ⊎_elim, arith, slice_get}
-use Rattle.std.specs.Prelude.{All}
-use Rattle.std.specs.declared.cmp.Ordering.TheVariants.{Less}
+use Rattle.hn_base.proofs.Names.{◌≡◌, ◌⊎◌, ℕ, ◌+◌, ◌-◌, ◌<◌, ◌≤◌, List, [], ◌∷◌, ◌++◌, length, get_or, take, Contains, Some, sym, ◌∙◌, ap, subst, inl, inr, ⊎_elim, arith, slice_get, All, Less}
+use Rattle.hn_base.proofs.Names.{cases_lt, All-contains, All-take, Contains-push, Contains-push_cases, Contains-append_left, Less-from_sorted, pow_pos, get_or_from_slice_get, PlainPrefix, IsPrefix}
+use Rattle.hn_base.proofs.Names.{IsWithin, prefix_cmp}
+use Rattle.hn_deleg.proofs.Names.{contains_at, nothing_in, sorted_push, AreOutermost, IsCovered, IsReadyFor, front_at}
 use Rattle.std.specs.List.Sorted.{IsStrictlySortedBy}
-use Rattle.std.proofs.lemmas.Bool.{cases_lt}
-use Rattle.std.proofs.lemmas.List.Elements.{All-contains, All-take, Contains-push, Contains-push_cases, Contains-append_left}
-use Rattle.std.proofs.lemmas.Map.Keys.{Less-from_sorted}
 use Rattle.std.proofs.lemmas.Map.Views.{All-before_last}
-use Rattle.std.proofs.lemmas.Nat.{pow_pos}
-use Rattle.std.proofs.lemmas.Option.{get_or_from_slice_get}
-use Rattle.hn_base.proofs.PartsAtPlaces.{contains_at}
-use Rattle.hn_base.proofs.AscendingLists.{nothing_in, sorted_push}
-use Rattle.hn_base.specs.Prefix.{PlainPrefix, IsPrefix, IsWithin, prefix_cmp}
 use Rattle.hn_deleg.proofs.FirstElements.{sorted_take}
 use Rattle.hn_deleg.proofs.Prefixes.{WithinIsRange, OverlapIsRange, OverlapIsNesting, less_bits, not_within_later}
-use Rattle.hn_deleg.specs.Steps.{AreOutermost, IsCovered, IsReadyFor}
-use Rattle.hn_base.proofs.FrontOfList.{front_at}
 
 -- an element is the last one, or before it
 last_or_before : (kept : List PlainPrefix) (k l : PlainPrefix) → IsStrictlySortedBy prefix_cmp kept → Contains kept k → slice_get kept (length kept - 1) ≡ Some l → (k ≡ l) ⊎ (prefix_cmp k l ≡ Less)

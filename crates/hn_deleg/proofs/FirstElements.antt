@@ -1,10 +1,9 @@
 -- The first elements of a list, and lists in strictly ascending order.
-use Rattle.std.proofs.Common.{◌≡◌, ◌⊎◌, ℕ, List, [], ◌∷◌, length, take, Contains, Ordering, refl, ap, subst, inl, inr, ⊎_elim, suc, zero}
-use Rattle.std.specs.declared.cmp.Ordering.TheVariants.{Less}
+use Rattle.hn_base.proofs.Names.{◌≡◌, ◌⊎◌, ℕ, List, [], ◌∷◌, length, take, Contains, Ordering, refl, ap, subst, inl, inr, ⊎_elim, suc, zero, Less, All-contains, All-contains_itself, All-take}
+use Rattle.hn_base.proofs.Names.{All-from_recursion, recursion_from_All, sorted_tail}
+use Rattle.hn_deleg.proofs.Names.{Contains-head, Contains-tail, Contains-cases, nothing_in}
 use Rattle.std.specs.List.Sorted.{IsStrictlySortedBy}
-use Rattle.std.proofs.lemmas.List.Elements.{All-contains, All-contains_itself, All-take, All-from_recursion, recursion_from_All}
-use Rattle.std.proofs.lemmas.Map.Keys.{sorted_tail}
-use Rattle.hn_base.proofs.AscendingLists.{Contains-head, Contains-tail, Contains-cases, nothing_in, below_head}
+use Rattle.hn_base.proofs.AscendingLists.{below_head}
 
 -- ---- the first elements
 

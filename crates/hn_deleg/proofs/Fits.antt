@@ -1,23 +1,14 @@
 -- What node data say of a delegation is in range: the lifetimes fit 32 bits, and the prefix is one.
-use Rattle.std.proofs.Common.{◌≡◌, ◌⊎◌, ℕ, ◌-◌, ◌*◌, ◌/◌, ◌^◌, ◌<◌, ◌≤◌, List, [], ◌∷◌, Contains, Some, Bool, true, false, cond, eqb, refl, sym, subst, inl, inr, ⊎_elim, arith, min}
-use Rattle.std.proofs.lemmas.Option.{same_Some, none-some}
-use Rattle.std.proofs.lemmas.Bool.{cases_lt}
-use Rattle.std.proofs.lemmas.Bool.Decides.{nat_tests}
-use Rattle.std.proofs.lemmas.List.Elements.{All-weaker}
-use Rattle.hn_base.proofs.AscendingLists.{Contains-cases, nothing_in}
-use Rattle.hn_base.proofs.Elements.{from_filter_map}
-use Rattle.hn_base.specs.Prefix.{PlainPrefix, IsPrefix}
+use Rattle.hn_base.proofs.Names.{◌≡◌, ◌⊎◌, ℕ, ◌-◌, ◌*◌, ◌/◌, ◌^◌, ◌<◌, ◌≤◌, List, [], ◌∷◌, Contains, Some, Bool, true, false, cond, eqb, refl, sym, subst, inl, inr, ⊎_elim, arith, min, same_Some}
+use Rattle.hn_base.proofs.Names.{none-some, cases_lt, nat_tests, All-weaker, PlainPrefix, IsPrefix}
+use Rattle.hn_deleg.proofs.Names.{Contains-cases, nothing_in, from_filter_map, PlainItem, HasDelegation, delegation_of, Delegation, PlainView, IsAnnouncedPrefix, IsLongestLeft, IsOutermost}
+use Rattle.hn_deleg.proofs.Names.{HasLifetimes, Delegated}
 use Rattle.hn_tlv.specs.Grammar.{PlainTlv}
-use Rattle.hn_typed.specs.Item.{PlainItem, Delegated as DelegatedItem}
+use Rattle.hn_typed.specs.Item.{Delegated as DelegatedItem}
 use Rattle.hn_typed.specs.Table.{InRange, IsItem}
 use Rattle.hn_data.specs.Items.{IsReading}
-use Rattle.hn_data.specs.Delegations.{HasDelegation, delegation_of}
-use Rattle.hn_data.specs.declared.said.Delegation.{Delegation}
-use Rattle.hn_data.specs.View.{PlainView}
-use Rattle.hn_deleg.specs.Live.{IsAnnouncedPrefix, IsLongestLeft}
 use Rattle.hn_deleg.specs.Laws.{UsableArePrefixes}
-use Rattle.hn_deleg.specs.Used.{IsOutermost, HasLifetimes, whole_seconds}
-use Rattle.hn_deleg.specs.declared.delegated.Delegated.{Delegated}
+use Rattle.hn_deleg.specs.Used.{whole_seconds}
 
 -- each number of the delegation fits its field
 pub record IsDelegation (d : Delegation) : Type 0 where

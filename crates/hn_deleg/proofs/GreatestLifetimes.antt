@@ -1,13 +1,7 @@
 -- The greatest of a lifetime, one announcement after the other.
-use Rattle.std.proofs.Common.{◌≡◌, ◌≢◌, ◌⊎◌, ℕ, ◌<◌, ◌≤◌, List, take, slice_get, Some, ◌+◌, [], ◌∷◌, ◌++◌, Contains, refl, sym, ◌∙◌, ap, subst, inl, inr, ⊎_elim, arith, max, min}
-use Rattle.std.proofs.lemmas.Bool.{cases_lt}
-use Rattle.std.proofs.lemmas.List.Elements.{Contains-push, Contains-push_cases, Contains-append_left}
-use Rattle.hn_base.proofs.AscendingLists.{Contains-from_map, nothing_in}
-use Rattle.hn_base.specs.Prefix.{PlainPrefix}
-use Rattle.hn_deleg.specs.declared.delegated.Delegated.{Delegated}
-use Rattle.hn_deleg.specs.Steps.{IsGreatestIn, HasLifetimesIn}
-use Rattle.hn_deleg.specs.Used.{prefixes_of}
-use Rattle.hn_base.proofs.FrontOfList.{front_at}
+use Rattle.hn_base.proofs.Names.{◌≡◌, ◌≢◌, ◌⊎◌, ℕ, ◌<◌, ◌≤◌, List, take, slice_get, Some, ◌+◌, [], ◌∷◌, ◌++◌, Contains, refl, sym, ◌∙◌, ap, subst, inl, inr, ⊎_elim, arith, max, min, cases_lt}
+use Rattle.hn_base.proofs.Names.{Contains-push, Contains-push_cases, Contains-append_left, PlainPrefix}
+use Rattle.hn_deleg.proofs.Names.{Contains-from_map, nothing_in, Delegated, IsGreatestIn, HasLifetimesIn, prefixes_of, front_at}
 
 -- not below the lifetimes of a prefix, and one of them or 0
 pub record IsTop (xs : List Delegated) (p : PlainPrefix) (f : Delegated → ℕ) (ms : ℕ) : Type 0 where

@@ -1,27 +1,14 @@
 -- Usable prefixes while time passes.
-use Rattle.std.proofs.Common.{◌≡◌, ◌≢◌, ◌∙◌, ◌⊎◌, ◌↔◌, ℕ, ◌+◌, ◌-◌, ◌*◌, ◌^◌, ◌<◌, ◌≤◌, Bool, cond, List, [], ◌∷◌, length, map, min, Contains, refl, sym, ap, subst, inl, inr, arith}
-use Rattle.std.specs.Prelude.{All}
-use Rattle.std.specs.declared.cmp.Ordering.TheVariants.{Less}
-use Rattle.std.specs.List.Sorted.{IsStrictlySortedBy}
-use Rattle.std.proofs.lemmas.Bool.{cases_lt, cases_eq, ne_eqb}
-use Rattle.std.proofs.lemmas.List.{length-map}
-use Rattle.std.proofs.lemmas.List.Elements.{All-contains}
-use Rattle.hn_base.proofs.AscendingLists.{Contains-map, Contains-from_map}
-use Rattle.hn_base.proofs.Elements.{all_of}
-use Rattle.hn_base.proofs.PartsAtPlaces.{contains_at, part_at, part_stands}
-use Rattle.hn_base.specs.Prefix.{PlainPrefix, prefix_cmp}
-use Rattle.hn_data.specs.Delegations.{HasDelegation}
-use Rattle.hn_data.specs.Later.{IsLater, aged_entry}
-use Rattle.hn_data.specs.Said.{HasVersion}
-use Rattle.hn_data.specs.View.{PlainView}
-use Rattle.hn_data.specs.declared.said.Delegation.{Delegation}
-use Rattle.hn_data.specs.declared.view.Entry.{Entry}
-use Rattle.hn_deleg.specs.declared.delegated.Delegated.{Delegated}
-use Rattle.hn_deleg.specs.Due.{IsEnd, IsDelegationEnd, IsEndIn, IsLifetimeEnd}
+use Rattle.hn_base.proofs.Names.{◌≡◌, ◌≢◌, ◌∙◌, ◌⊎◌, ◌↔◌, ℕ, ◌+◌, ◌-◌, ◌*◌, ◌^◌, ◌<◌, ◌≤◌, Bool, cond, List, [], ◌∷◌, length, map, min, Contains, refl, sym, ap, subst, inl, inr, arith, All, Less}
+use Rattle.hn_base.proofs.Names.{IsStrictlySortedBy, cases_lt, cases_eq, ne_eqb, length-map, All-contains, PlainPrefix, prefix_cmp}
+use Rattle.hn_deleg.proofs.Names.{Contains-map, Contains-from_map, all_of, contains_at, HasDelegation, aged_entry, HasVersion, PlainView, Delegation, Entry, Delegated, IsEnd, IsDelegationEnd, IsEndIn}
+use Rattle.hn_deleg.proofs.Names.{remaining, IsAnnounced, IsAnnouncedPrefix, IsLongestLeft, IsOutermost, HasLifetimes}
+use Rattle.hn_base.proofs.PartsAtPlaces.{part_at, part_stands}
+use Rattle.hn_data.specs.Later.{IsLater}
+use Rattle.hn_deleg.specs.Due.{IsLifetimeEnd}
 use Rattle.hn_deleg.specs.Later.{left_after, aged_delegated}
 use Rattle.hn_deleg.specs.Laws.{AgedAreTheSamePrefixes, EndsOfLater, UsableOfLater, UnwantedOfLater}
-use Rattle.hn_deleg.specs.Live.{remaining, IsAnnounced, IsAnnouncedPrefix, IsLongestLeft}
-use Rattle.hn_deleg.specs.Used.{IsOutermost, HasLifetimes, IsUnwanted}
+use Rattle.hn_deleg.specs.Used.{IsUnwanted}
 use Rattle.hn_deleg.proofs.Fits.{IsDelegation, said_in_range}
 
 -- ---- lifetimes

@@ -1,3 +1,4 @@
+mod Names
 mod FirstElements
 mod Prefixes
 mod Filtered

@@ -1,24 +1,9 @@
 -- What nodes announce that is live, one node after the other.
-use Rattle.std.proofs.Common.{◌≡◌, ◌⊎◌, ◌↔◌, ℕ, ◌<◌, ◌≤◌, List, take, slice_get, ◌+◌, [], ◌∷◌, ◌++◌, Contains, Option, Some, None, Bool, true, false, cond, refl, sym, ◌∙◌, ap, subst, inl, inr}
-use Rattle.std.proofs.Common.{⊎_elim, arith, append_assoc}
-use Rattle.std.specs.Prelude.{◌&&◌, nat_le, nat_lt}
-use Rattle.std.specs.List.{filter_map, cons_option}
-use Rattle.std.proofs.lemmas.Option.{same_Some, none-some}
-use Rattle.std.proofs.lemmas.Bool.Decides.{nat_tests}
-use Rattle.std.proofs.lemmas.List.Elements.{All-push, filter_map-append, Contains-push, Contains-push_cases, Contains-append_left, Contains-append_right, Contains-append_cases}
-use Rattle.hn_base.specs.Prefix.{IsPrefix}
-use Rattle.std.proofs.lemmas.List.{append-nil}
-use Rattle.hn_base.proofs.AscendingLists.{nothing_in}
-use Rattle.hn_base.proofs.Elements.{in_filter_map, from_filter_map}
-use Rattle.hn_data.specs.Said.{HasVersion}
-use Rattle.hn_data.specs.Delegations.{HasDelegation}
-use Rattle.hn_data.specs.declared.said.Delegation.{Delegation}
-use Rattle.hn_data.specs.declared.view.Entry.{Entry}
-use Rattle.hn_deleg.specs.Live.{remaining}
-use Rattle.hn_deleg.specs.Steps.{live_of, HasPrefixes, IsLiveAt, IsLiveIn}
-use Rattle.hn_deleg.specs.declared.delegated.Delegated.{Delegated}
-use Rattle.std.proofs.lemmas.Bool.{and_parts}
-use Rattle.hn_base.proofs.FrontOfList.{front_at}
+use Rattle.hn_base.proofs.Names.{◌≡◌, ◌⊎◌, ◌↔◌, ℕ, ◌<◌, ◌≤◌, List, take, slice_get, ◌+◌, [], ◌∷◌, ◌++◌, Contains, Option, Some, None, Bool, true, false, cond, refl, sym, ◌∙◌, ap, subst, inl, inr}
+use Rattle.hn_base.proofs.Names.{⊎_elim, arith, append_assoc, ◌&&◌, nat_le, filter_map, cons_option, same_Some, none-some, nat_tests, All-push, filter_map-append, Contains-push, Contains-push_cases}
+use Rattle.hn_base.proofs.Names.{Contains-append_left, Contains-append_right, Contains-append_cases, IsPrefix, append-nil, and_parts}
+use Rattle.hn_deleg.proofs.Names.{nothing_in, in_filter_map, from_filter_map, HasVersion, HasDelegation, Delegation, Entry, remaining, live_of, HasPrefixes, IsLiveAt, IsLiveIn, Delegated, front_at}
+use Rattle.std.specs.Prelude.{nat_lt}
 
 -- ---- the delegations of a node
 

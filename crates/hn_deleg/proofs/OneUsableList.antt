@@ -1,19 +1,9 @@
 -- Usable prefixes do not overlap, and a view has one list of them.
-use Rattle.std.proofs.Common.{◌≡◌, ℕ, ◌+◌, ◌≤◌, List, [], ◌∷◌, ◌++◌, length, Contains, refl, sym, ◌∙◌, ap, subst, ⊎_elim, arith, min}
-use Rattle.std.specs.Prelude.{All}
-use Rattle.std.specs.declared.cmp.Ordering.TheVariants.{Less}
-use Rattle.std.proofs.lemmas.List.{length-append, length-map}
-use Rattle.std.proofs.lemmas.List.Elements.{All-contains, Contains-push_cases}
-use Rattle.hn_base.proofs.AscendingLists.{ascending_unique, Contains-head, Contains-tail, Contains-from_map, sorted_push, not_both}
-use Rattle.hn_base.specs.Prefix.{PlainPrefix, IsWithin, Overlaps, prefix_cmp}
-use Rattle.hn_data.specs.View.{PlainView}
-use Rattle.hn_data.specs.declared.said.Delegation.{Delegation}
-use Rattle.hn_deleg.specs.declared.delegated.Delegated.{Delegated}
-use Rattle.hn_deleg.specs.Live.{IsLongestLeft}
-use Rattle.hn_deleg.specs.Used.{prefixes_of, IsOutermost, HasLifetimes, AreUsable}
-use Rattle.hn_base.proofs.Pigeonhole.{no_longer}
+use Rattle.hn_base.proofs.Names.{◌≡◌, ℕ, ◌+◌, ◌≤◌, List, [], ◌∷◌, ◌++◌, length, Contains, refl, sym, ◌∙◌, ap, subst, ⊎_elim, arith, min, All, Less, length-map, All-contains, Contains-push_cases}
+use Rattle.hn_base.proofs.Names.{PlainPrefix, IsWithin, Overlaps, prefix_cmp}
+use Rattle.hn_deleg.proofs.Names.{length-append, ascending_unique, Contains-head, Contains-tail, Contains-from_map, sorted_push, not_both, PlainView, Delegation, Delegated, IsLongestLeft, prefixes_of}
+use Rattle.hn_deleg.proofs.Names.{IsOutermost, HasLifetimes, AreUsable, no_longer, prefix_total, exact_prefix}
 use Rattle.hn_deleg.proofs.Prefixes.{OverlapIsNesting}
-use Rattle.hn_base.proofs.Prefixes.{prefix_total, exact_prefix}
 
 pub outermost_of : (view : PlainView) (list : List Delegated) (p : PlainPrefix) → AreUsable view list → Contains (prefixes_of list) p → IsOutermost view p
 outermost_of view list p are h =

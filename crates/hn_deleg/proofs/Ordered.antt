@@ -1,17 +1,10 @@
 -- Prefixes inside usable prefixes are in the order of these.
-use Rattle.std.proofs.Common.{◌≡◌, ◌-◌, ◌<◌, ◌≤◌, List, Contains, ⊎_elim, arith}
-use Rattle.std.specs.declared.cmp.Ordering.TheVariants.{Less}
-use Rattle.std.proofs.lemmas.Bool.{cases_lt}
-use Rattle.std.proofs.lemmas.Nat.{pow_pos}
+use Rattle.hn_base.proofs.Names.{◌≡◌, ◌-◌, ◌<◌, ◌≤◌, List, Contains, ⊎_elim, arith, Less, cases_lt, pow_pos, PlainPrefix, IsPrefix, IsWithin, last_address, prefix_cmp}
+use Rattle.hn_deleg.proofs.Names.{PlainView, Delegated, prefixes_of, AreUsable, prefix_total}
 use Rattle.hn_base.proofs.AscendingLists.{not_below_itself}
-use Rattle.hn_base.specs.Prefix.{PlainPrefix, IsPrefix, IsWithin, last_address, prefix_cmp}
-use Rattle.hn_data.specs.View.{PlainView}
-use Rattle.hn_deleg.specs.declared.delegated.Delegated.{Delegated}
-use Rattle.hn_deleg.specs.Used.{prefixes_of, AreUsable}
 use Rattle.hn_deleg.proofs.Fits.{candidate_is_prefix}
 use Rattle.hn_deleg.proofs.Prefixes.{WithinIsRange, OverlapIsRange, OverlapIsNesting, less_bits, cmp_from_bits}
 use Rattle.hn_deleg.proofs.OneUsableList.{outermost_of, apart}
-use Rattle.hn_base.proofs.Prefixes.{prefix_total}
 
 pub inside_ordered : WithinIsRange → OverlapIsRange → OverlapIsNesting → (view : PlainView) (list : List Delegated) (d f p q : PlainPrefix) → AreUsable view list → Contains (prefixes_of list) d
     → Contains (prefixes_of list) f → IsPrefix p → IsPrefix q → IsWithin p d → IsWithin q f → prefix_cmp d f ≡ Less → prefix_cmp p q ≡ Less

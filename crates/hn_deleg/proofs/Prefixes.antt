@@ -1,13 +1,7 @@
 -- What a comparison of two prefixes tells, and that a prefix comes before those strictly inside it.
-use Rattle.std.proofs.Common.{◌≡◌, ◌≢◌, ◌⊎◌, ◌↔◌, ◌-◌, ◌^◌, ◌<◌, ◌≤◌, Ordering, true, false, eqb, refl, sym, ap, inl, inr, ⊎_elim, arith}
-use Rattle.std.specs.Prelude.{◌&&◌}
-use Rattle.std.specs.declared.cmp.Ordering.TheVariants.{Less, Equal, Greater}
-use Rattle.std.specs.Cmp.{nat_cmp_is}
-use Rattle.std.specs.Ordering.{nat_cmp, ordering_then}
-use Rattle.std.proofs.lemmas.Bool.Decides.{not_from_Decides}
-use Rattle.std.proofs.lemmas.Nat.{pow_pos, pow_below}
+use Rattle.hn_base.proofs.Names.{◌≡◌, ◌≢◌, ◌⊎◌, ◌↔◌, ◌-◌, ◌^◌, ◌<◌, ◌≤◌, Ordering, true, false, eqb, refl, sym, ap, inl, inr, ⊎_elim, arith, ◌&&◌, Less, Equal, Greater, nat_cmp_is, nat_cmp}
+use Rattle.hn_base.proofs.Names.{ordering_then, not_from_Decides, pow_pos, pow_below, PlainPrefix, IsPrefix, IsWithin, Overlaps, last_address, prefix_cmp}
 use Rattle.hn_base.proofs.AscendingLists.{exact_nat}
-use Rattle.hn_base.specs.Prefix.{PlainPrefix, IsPrefix, IsWithin, Overlaps, last_address, prefix_cmp}
 use Rattle.hn_base.proofs.AscendingNumbers.{lt_from_less}
 use Rattle.hn_base.proofs.Prefixes.{is_one_prefix, prefix_decided}
 

@@ -1,23 +1,11 @@
 -- From what is announced to the usable prefixes.
-use Rattle.std.proofs.Common.{◌≡◌, ◌↔◌, ℕ, ◌+◌, ◌≤◌, List, [], ◌∷◌, ◌++◌, length, take, Contains, Some, sym, ◌∙◌, ap, subst, inl, inr, ⊎_elim, arith, slice_get}
-use Rattle.std.specs.Prelude.{All}
-use Rattle.std.specs.declared.cmp.Ordering.TheVariants.{Less}
-use Rattle.std.specs.List.Sorted.{IsStrictlySortedBy}
-use Rattle.std.proofs.lemmas.List.{length-map, length-take, map-append}
-use Rattle.std.proofs.lemmas.List.Elements.{All-contains}
-use Rattle.hn_base.proofs.AscendingLists.{Contains-map, Contains-from_map}
-use Rattle.hn_base.proofs.Elements.{all_of}
-use Rattle.hn_base.specs.Prefix.{PlainPrefix, IsPrefix, prefix_cmp}
-use Rattle.hn_data.specs.View.{PlainView}
-use Rattle.hn_data.specs.declared.said.Delegation.{Delegation}
-use Rattle.hn_data.specs.declared.view.Entry.{Entry}
-use Rattle.hn_deleg.specs.declared.delegated.Delegated.{Delegated}
-use Rattle.hn_deleg.specs.Live.{remaining, IsAnnounced, IsAnnouncedPrefix, IsLongestLeft}
-use Rattle.hn_deleg.specs.Steps.{live_of, HasPrefixes, IsLiveIn, IsOutermostIn, AreOutermost, IsGreatestIn, HasLifetimesIn}
-use Rattle.hn_deleg.specs.Used.{prefixes_of, IsOutermost, HasLifetimes, AreUsable}
+use Rattle.hn_base.proofs.Names.{◌≡◌, ◌↔◌, ℕ, ◌+◌, ◌≤◌, List, [], ◌∷◌, ◌++◌, length, take, Contains, Some, sym, ◌∙◌, ap, subst, inl, inr, ⊎_elim, arith, slice_get, All, Less, IsStrictlySortedBy}
+use Rattle.hn_base.proofs.Names.{length-map, length-take, map-append, All-contains, PlainPrefix, IsPrefix, prefix_cmp}
+use Rattle.hn_deleg.proofs.Names.{Contains-map, Contains-from_map, all_of, PlainView, Delegation, Entry, Delegated, remaining, IsAnnounced, IsAnnouncedPrefix, IsLongestLeft, live_of, HasPrefixes}
+use Rattle.hn_deleg.proofs.Names.{IsLiveIn, AreOutermost, IsGreatestIn, HasLifetimesIn, prefixes_of, IsOutermost, HasLifetimes, AreUsable, front_at}
+use Rattle.hn_deleg.specs.Steps.{IsOutermostIn}
 use Rattle.hn_deleg.proofs.Live.{leaves, left, left_of}
 use Rattle.hn_deleg.proofs.FirstElements.{sorted_take, taken_or_after, Contains-from_take}
-use Rattle.hn_base.proofs.FrontOfList.{front_at}
 
 -- ---- candidates and lifetimes
 

@@ -1,12 +1,9 @@
 -- What has departed is told for at most 7,200 s from then on.
-use Rattle.std.proofs.Common.{ℕ, ◌+◌, ◌*◌, ◌-◌, ◌≤◌, min, cond, List, ◌++◌, length, take, drop, map, Option, None, Some, refl, arith}
-use Rattle.std.specs.Prelude.{is_some, unwrap_or, IsTrue, All}
-use Rattle.std.specs.List.{filter}
-use Rattle.std.proofs.lemmas.Bool.{false≢true}
-use Rattle.std.proofs.lemmas.List.Elements.{All-append, All-take, All-drop, All-map, All-filter, All-weaker, All-contains}
-use Rattle.hn_base.proofs.Elements.{all_of}
-use Rattle.hn_departed.specs.declared.departures.Told.{Told}
-use Rattle.hn_departed.specs.Departed.{until_of, told_of, is_departed, departs, departed, kept, queue}
+use Rattle.hn_base.proofs.Names.{ℕ, ◌+◌, ◌*◌, ◌-◌, ◌≤◌, min, cond, List, ◌++◌, length, take, drop, map, Option, None, Some, refl, arith, unwrap_or, All, false≢true, All-append, All-take, All-map}
+use Rattle.hn_base.proofs.Names.{All-filter, All-weaker, All-contains}
+use Rattle.hn_departed.proofs.Names.{is_some, filter, All-drop, all_of, Told, told_of, is_departed, departs, departed, kept, queue}
+use Rattle.std.specs.Prelude.{IsTrue}
+use Rattle.hn_departed.specs.Departed.{until_of}
 use Rattle.hn_departed.specs.Laws.{EndsSoon, DepartedEndSoon}
 use Rattle.hn_departed.proofs.FirstGoes.{without_in}
 

@@ -1,10 +1,9 @@
 -- What was told on an endpoint, and on the others.
-use Rattle.std.proofs.Common.{◌≡◌, ◌≢◌, ℕ, ◌==◌, Bool, true, false, not, cond, ◌&&◌, nat_lt, List, [], ◌∷◌, ◌++◌, map, refl, sym, ap, ◌∙◌}
-use Rattle.std.specs.List.{filter}
-use Rattle.std.proofs.lemmas.Bool.{eqb-true, eq-eqb, ne_eqb}
+use Rattle.hn_base.proofs.Names.{◌≡◌, ◌≢◌, ℕ, Bool, true, false, not, cond, nat_lt, List, [], ◌∷◌, ◌++◌, map, refl, sym, ap, ◌∙◌, eqb-true, eq-eqb, ne_eqb}
+use Rattle.hn_departed.proofs.Names.{◌&&◌, filter, Told}
+use Rattle.std.proofs.Common.{◌==◌}
 use Rattle.hn_base.proofs.Keys.{same_id}
 use Rattle.hn_base.specs.declared.ids.EpId.{EpId}
-use Rattle.hn_departed.specs.declared.departures.Told.{Told}
 use Rattle.hn_departed.specs.Departed.{told_at, told_beside}
 use Rattle.hn_departed.specs.Laws.{EndpointsKeepTheirs}
 

@@ -1,12 +1,11 @@
 -- With one too many the one goes that departed first.
-use Rattle.std.proofs.Common.{◌≡◌, ℕ, zero, suc, ◌+◌, ◌-◌, ◌<◌, ◌≤◌, Bool, true, false, cond, List, [], ◌∷◌, ◌++◌, length, take, drop, refl, sym, ap, ◌∙◌, subst, arith, ◌⊎◌, inl, inr, append_assoc}
-use Rattle.std.specs.Prelude.{nat_le, Contains}
-use Rattle.std.specs.List.{list_any, remove}
-use Rattle.std.proofs.lemmas.Bool.{leb-true, le-leb, both_ways, cases_lt}
-use Rattle.hn_base.proofs.AscendingLists.{Contains-head, Contains-tail, Contains-cases, nothing_in}
+use Rattle.hn_base.proofs.Names.{◌≡◌, ℕ, zero, suc, ◌+◌, ◌-◌, ◌<◌, ◌≤◌, Bool, true, false, cond, List, [], ◌∷◌, ◌++◌, length, take, drop, refl, sym, ap, ◌∙◌, subst, arith, ◌⊎◌, inl, inr, append_assoc}
+use Rattle.hn_base.proofs.Names.{nat_le, list_any, leb-true, le-leb, both_ways, cases_lt}
+use Rattle.hn_departed.proofs.Names.{Contains, Contains-head, Contains-tail, nothing_in, Told, without_first, kept}
+use Rattle.std.specs.List.{remove}
+use Rattle.hn_base.proofs.AscendingLists.{Contains-cases}
 use Rattle.hn_base.proofs.Elements.{any_of, any_from}
-use Rattle.hn_departed.specs.declared.departures.Told.{Told}
-use Rattle.hn_departed.specs.Departed.{since, without_first, without, kept}
+use Rattle.hn_departed.specs.Departed.{since, without}
 
 -- whether one of those departed no later
 abbrev is_any_no_later : Told → List Told → Bool

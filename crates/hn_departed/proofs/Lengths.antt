@@ -1,9 +1,6 @@
 -- How many departed prefixes are told, and how many are kept.
-use Rattle.std.proofs.Common.{◌≡◌, ℕ, ◌+◌, ◌≤◌, List, ◌++◌, length, take, drop, map, arith, length-append, length-drop, length-take}
-use Rattle.std.proofs.lemmas.List.{length-map}
-use Rattle.hn_advert.specs.declared.advert.Info.{Info}
-use Rattle.hn_departed.specs.declared.departures.Told.{Told}
-use Rattle.hn_departed.specs.Departed.{told_of, deprecated, departed, queue, with_departed, told_after}
+use Rattle.hn_base.proofs.Names.{◌≡◌, ℕ, ◌+◌, ◌≤◌, List, ◌++◌, length, take, drop, map, arith, length-append, length-map}
+use Rattle.hn_departed.proofs.Names.{length-drop, length-take, Info, Told, told_of, deprecated, departed, queue, with_departed, told_after}
 use Rattle.hn_departed.specs.Laws.{FewAreKept}
 use Rattle.hn_departed.proofs.FirstGoes.{length-kept}
 

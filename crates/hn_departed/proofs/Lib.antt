@@ -1,3 +1,4 @@
+mod Names
 pub mod Endpoints
 pub mod FirstGoes
 pub mod Lengths

@@ -1,17 +1,13 @@
 -- What waits is told in its turn.
-use Rattle.std.proofs.Common.{◌≡◌, ℕ, zero, suc, ◌+◌, ◌-◌, ◌*◌, ◌<◌, ◌≤◌, Bool, true, false, cond, not, ◌&&◌, nat_lt, List, [], ◌∷◌, ◌++◌, length, take, drop, map, Option, None, Some, refl, sym, ap, ◌∙◌, subst, arith, rules, tests, ◌⊎◌, inl, inr, append_assoc, length-append, length-drop, length-take}
-use Rattle.std.specs.Prelude.{is_some, is_none, All, Contains}
-use Rattle.std.specs.List.{filter}
+use Rattle.hn_base.proofs.Names.{◌≡◌, ℕ, zero, suc, ◌+◌, ◌-◌, ◌*◌, ◌<◌, ◌≤◌, Bool, true, false, cond, not, nat_lt, List, [], ◌∷◌, ◌++◌, length, take, drop, map, Option, None, Some, refl, sym, ap, ◌∙◌}
+use Rattle.hn_base.proofs.Names.{subst, arith, rules, tests, ◌⊎◌, inl, inr, append_assoc, length-append, is_none, All, false≢true, cases_lt, and_from, All-head, All-tail, All-append, All-take}
+use Rattle.hn_base.proofs.Names.{All-map, All-filter, All-contains, filter-append, Contains-append_right, Contains-append_cases, PlainPrefix}
+use Rattle.hn_departed.proofs.Names.{◌&&◌, length-drop, length-take, is_some, Contains, filter, All-drop, Contains-head, Contains-tail, nothing_in, all_of, Info, Told, told_of, deprecated}
+use Rattle.hn_departed.proofs.Names.{is_departed, departs, departed, kept, queue, with_departed, told_after}
 use Rattle.std.proofs.Math.Seq.{split_at}
-use Rattle.std.proofs.lemmas.Bool.{false≢true, cases_lt, and_from}
 use Rattle.std.proofs.lemmas.List.{drop-append-le}
-use Rattle.std.proofs.lemmas.List.Elements.{All-head, All-tail, All-append, All-take, All-drop, All-map, All-filter, All-contains, filter-append, Contains-append_right, Contains-append_cases}
-use Rattle.hn_base.proofs.AscendingLists.{Contains-head, Contains-tail, Contains-map, nothing_in}
-use Rattle.hn_base.proofs.Elements.{all_of}
-use Rattle.hn_base.specs.Prefix.{PlainPrefix}
-use Rattle.hn_advert.specs.declared.advert.Info.{Info}
-use Rattle.hn_departed.specs.declared.departures.Told.{Told}
-use Rattle.hn_departed.specs.Departed.{told_of, deprecated, is_prefix_among, is_departed, departs, departed, kept, queue, with_departed, told_after}
+use Rattle.hn_base.proofs.AscendingLists.{Contains-map}
+use Rattle.hn_departed.specs.Departed.{is_prefix_among}
 use Rattle.hn_departed.specs.Laws.{Turn, sent_in, departing, NothingDeparts, IsDeprecatedIn, DepartedAreTold}
 use Rattle.hn_departed.proofs.FirstGoes.{length-kept, few_stay}
 use Rattle.hn_departed.proofs.EndSoon.{all_kept}

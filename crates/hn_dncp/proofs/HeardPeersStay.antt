@@ -1,13 +1,7 @@
 -- Peers that are heard stay peers.
-use Rattle.std.proofs.Common.{◌≡◌, ℕ, Bool, true, false, cond, List, [], ◌∷◌, ◌++◌, length, map, get_or, Option, Some, None, refl, sym, arith}
-use Rattle.std.specs.Prelude.{◌==◌}
-use Rattle.std.specs.List.{AllPairs}
-use Rattle.std.proofs.lemmas.Bool.{cond_both, eqb-true, eqb-false, and_parts}
-use Rattle.std.proofs.lemmas.List.{get_or-map, length-map}
-use Rattle.hn_base.specs.declared.ids.NodeId.{NodeId}
-use Rattle.hn_base.specs.declared.ids.EpId.{EpId}
-use Rattle.hn_dncp.specs.declared.peers.Neighbour.{Neighbour}
-use Rattle.hn_dncp.specs.Peers.{is_peer, has_peer, IsOther, ArePeers}
+use Rattle.hn_base.proofs.Names.{◌≡◌, ℕ, Bool, true, false, cond, List, [], ◌∷◌, ◌++◌, length, map, get_or, Option, Some, None, refl, sym, arith, ◌==◌, AllPairs, cond_both, eqb-true, eqb-false}
+use Rattle.hn_base.proofs.Names.{and_parts, get_or-map, length-map}
+use Rattle.hn_dncp.proofs.Names.{NodeId, EpId, Neighbour, is_peer, has_peer, IsOther, ArePeers}
 use Rattle.hn_dncp.specs.Greet.{peers_heard}
 use Rattle.hn_dncp.specs.Hash.{contacted}
 use Rattle.hn_dncp.proofs.PeerLemmas.{ArePeers-push}

@@ -1,3 +1,4 @@
+mod Names
 mod PeerLemmas
 mod OneTlvMore
 mod Packings

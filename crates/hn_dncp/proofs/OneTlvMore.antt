@@ -1,12 +1,6 @@
 -- A datagram that is filled, one TLV after another.
-use Rattle.std.proofs.Common.{◌≡◌, ◌<◌, ◌+◌, ◌∙◌, ℕ, List, [], ◌∷◌, ◌++◌, length, take, get_or, ap, sym, append_assoc}
-use Rattle.std.specs.List.{concat}
-use Rattle.std.proofs.lemmas.List.{take_more, append-nil}
-use Rattle.std.proofs.lemmas.List.Folds.{concat-append}
-use Rattle.hn_base.specs.declared.ids.NodeId.{NodeId}
-use Rattle.hn_base.specs.declared.ids.EpId.{EpId}
-use Rattle.hn_tlv.specs.Grammar.{spelling}
-use Rattle.hn_dncp.specs.Packing.{sender_tlv, datagram_of}
+use Rattle.hn_base.proofs.Names.{◌≡◌, ◌<◌, ◌+◌, ◌∙◌, ℕ, List, [], ◌∷◌, ◌++◌, length, take, get_or, ap, sym, append_assoc, concat, take_more, append-nil, concat-append}
+use Rattle.hn_dncp.proofs.Names.{NodeId, EpId, spelling, sender_tlv, datagram_of}
 
 -- one TLV more
 pub datagram_of-take_more : (own : NodeId) (endpoint : EpId) (tlvs : List (List ℕ)) (i : ℕ) (d : List ℕ) → i < length tlvs

@@ -1,12 +1,7 @@
 -- A packing of each list of TLVs: a datagram takes one after another, as long as it stays within 4,000 bytes.
-use Rattle.std.proofs.Common.{◌≡◌, ◌⊎◌, ◌<◌, ◌≤◌, ◌+◌, ◌∙◌, ℕ, List, [], ◌∷◌, ◌++◌, length, inl, inr, refl, ap, subst, append_assoc, arith, length-append}
-use Rattle.std.specs.List.{concat}
-use Rattle.std.proofs.lemmas.List.{append-nil}
-use Rattle.std.proofs.lemmas.List.Folds.{concat-append}
-use Rattle.std.proofs.lemmas.Bool.{cases_lt}
-use Rattle.hn_base.specs.declared.ids.NodeId.{NodeId}
-use Rattle.hn_base.specs.declared.ids.EpId.{EpId}
-use Rattle.hn_dncp.specs.Packing.{datagram_of, IsFullBefore, IsFilled, IsPacking}
+use Rattle.hn_base.proofs.Names.{◌≡◌, ◌⊎◌, ◌<◌, ◌≤◌, ◌+◌, ◌∙◌, ℕ, List, [], ◌∷◌, ◌++◌, length, inl, inr, refl, ap, subst, append_assoc, arith, length-append, concat, append-nil, concat-append}
+use Rattle.hn_base.proofs.Names.{cases_lt}
+use Rattle.hn_dncp.proofs.Names.{NodeId, EpId, datagram_of, IsFullBefore, IsFilled, IsPacking}
 
 module _ (own : NodeId) (endpoint : EpId) where
   -- a group that a datagram may hold

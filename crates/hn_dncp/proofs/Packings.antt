@@ -1,16 +1,11 @@
 -- Packings of one list of TLVs.
-use Rattle.std.proofs.Common.{◌≡◌, ◌<◌, ◌≤◌, ◌+◌, ◌∙◌, ℕ, zero, suc, List, [], ◌∷◌, ◌++◌, length, map, take, drop, get_or, inl, inr, ap, refl, sym, subst, arith, length-append}
-use Rattle.std.specs.List.{concat, All, AllByRecursion}
-use Rattle.std.proofs.lemmas.List.{append-nil, take-append-drop}
-use Rattle.std.proofs.lemmas.List.Elements.{Contains-append_left, Contains-append_right, All-append, recursion_from_All}
-use Rattle.std.proofs.lemmas.List.Folds.{concat-append}
-use Rattle.std.proofs.lemmas.Bool.{cases_lt}
-use Rattle.hn_base.specs.Byte.{IsByte}
-use Rattle.hn_base.specs.declared.ids.NodeId.{NodeId}
-use Rattle.hn_base.specs.declared.ids.EpId.{EpId}
-use Rattle.hn_tlv.specs.Grammar.{PlainTlv, IsTlv, spelling, IsTlvList}
+use Rattle.hn_base.proofs.Names.{◌≡◌, ◌<◌, ◌≤◌, ◌+◌, ◌∙◌, ℕ, zero, suc, List, [], ◌∷◌, ◌++◌, length, map, take, drop, get_or, inl, inr, ap, refl, sym, subst, arith, length-append, concat}
+use Rattle.hn_base.proofs.Names.{AllByRecursion, append-nil, take-append-drop, Contains-append_left, Contains-append_right, All-append, recursion_from_All, concat-append, cases_lt, IsByte}
+use Rattle.hn_dncp.proofs.Names.{NodeId, EpId, spelling, sender_tlv, datagram_of, IsFullBefore, IsFilled, IsPacking}
+use Rattle.std.specs.List.{All}
+use Rattle.hn_tlv.specs.Grammar.{PlainTlv, IsTlv, IsTlvList}
 use Rattle.hn_typed.specs.Fields.{word}
-use Rattle.hn_dncp.specs.Packing.{sender_tlv, datagram_of, IsFullBefore, IsFilled, IsPacking, IsShortDatagram, AreRead}
+use Rattle.hn_dncp.specs.Packing.{IsShortDatagram, AreRead}
 use Rattle.hn_base.proofs.BigEndian.{number_bytes}
 use Rattle.hn_base.proofs.FrontOfList.{same_parts}
 

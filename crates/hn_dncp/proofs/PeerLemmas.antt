@@ -1,16 +1,10 @@
 -- The peers of an endpoint, when one is renewed or added.
-use Rattle.std.proofs.Common.{◌≡◌, ◌≢◌, ◌<◌, ◌∙◌, ℕ, Bool, true, false, List, [], ◌∷◌, ◌++◌, length, map, Some, inl, inr, ap, sym, get_or, arith, length-append, length-set}
+use Rattle.hn_base.proofs.Names.{◌≡◌, ◌≢◌, ◌<◌, ◌∙◌, ℕ, Bool, true, false, List, [], ◌∷◌, ◌++◌, length, map, Some, inl, inr, ap, sym, get_or, arith, length-append, map-set_same, if◌then◌else◌, ◌==◌}
+use Rattle.hn_base.proofs.Names.{◌&&◌, AllPairs, and_parts, cases_lt, eqb-true, nat_tests, position-Some, all_pairs_push}
+use Rattle.hn_dncp.proofs.Names.{NodeId, EpId, Neighbour, is_peer, has_peer, IsOther, ArePeers}
+use Rattle.std.proofs.Common.{length-set}
 use Rattle.std.proofs.Math.ListN.{get_or-map}
-use Rattle.std.proofs.Math.Seq.{map-set_same}
-use Rattle.std.specs.Prelude.{slice_set, position, if◌then◌else◌, ◌==◌, ◌&&◌}
-use Rattle.std.specs.List.{AllPairs}
-use Rattle.std.proofs.lemmas.Bool.{and_parts, cases_lt, eqb-true}
-use Rattle.std.proofs.lemmas.Bool.Decides.{nat_tests}
-use Rattle.std.proofs.lemmas.List.Quantifiers.{position-Some, all_pairs_push}
-use Rattle.hn_base.specs.declared.ids.NodeId.{NodeId}
-use Rattle.hn_base.specs.declared.ids.EpId.{EpId}
-use Rattle.hn_dncp.specs.declared.peers.Neighbour.{Neighbour}
-use Rattle.hn_dncp.specs.Peers.{is_peer, has_peer, IsOther, ArePeers}
+use Rattle.std.specs.Prelude.{slice_set, position}
 use Rattle.hn_base.proofs.PassingElements.{map-one, each_fails}
 
 -- a peer's node and endpoint, and whether they are those of another

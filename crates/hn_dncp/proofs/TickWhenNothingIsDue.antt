@@ -1,10 +1,10 @@
 -- A tick does nothing at an endpoint where nothing is due, and at no other.
-use Rattle.std.proofs.Common.{◌≡◌, ◌∙◌, ℕ, ◌+◌, ◌-◌, ◌⊎◌, Bool, true, false, not, ◌&&◌, ◌||◌, cond, [], slice_index, inl, inr, refl, sym, ap, arith}
-use Rattle.std.specs.Prelude.{nat_le, ◌==◌}
-use Rattle.std.proofs.lemmas.Bool.{leb-false, lt-leb}
+use Rattle.hn_base.proofs.Names.{◌≡◌, ◌∙◌, ℕ, ◌+◌, ◌-◌, ◌⊎◌, Bool, true, false, not, cond, [], slice_index, inl, inr, refl, sym, ap, arith, nat_le, ◌==◌, leb-false, lt-leb}
+use Rattle.hn_dncp.proofs.Names.{silence_end}
+use Rattle.std.proofs.Common.{◌&&◌, ◌||◌}
 use Rattle.hn_timers.specs.Interval.{Interval, interval_from, has_to_send, fired, is_interval_over}
 use Rattle.hn_timers.specs.Length.{next_length}
-use Rattle.hn_timers.specs.KeepAlive.{is_silent, silence_end}
+use Rattle.hn_timers.specs.KeepAlive.{is_silent}
 use Rattle.hn_timers.specs.Laws.{StillIntervalStays}
 use Rattle.hn_dncp.specs.Due.{IsPortStill, IsIdleAt}
 use Rattle.hn_dncp.specs.Tick.{after_firing, after_interval, after_keep_alive, interval_words, has_keep_alive, ticked}

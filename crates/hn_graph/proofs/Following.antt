@@ -1,9 +1,7 @@
 -- Paths among nodes that say as much of their peers.
-use Rattle.std.proofs.Common.{◌≡◌, ◌∙◌, ℕ, List, Contains, sym, subst}
-use Rattle.hn_data.specs.Peers.{HasPeer, peer_link}
-use Rattle.hn_data.specs.declared.view.Entry.{Entry}
+use Rattle.hn_base.proofs.Names.{◌≡◌, ◌∙◌, ℕ, List, Contains, sym, subst}
+use Rattle.hn_graph.proofs.Names.{HasPeer, peer_link, Entry, AreAdjacent, IsRecent, IsReachable}
 use Rattle.hn_graph.specs.Following.{SaysAsMuch, SayAsMuch, ReachabilityFollows}
-use Rattle.hn_graph.specs.Path.{AreAdjacent, IsRecent, IsReachable}
 use Rattle.hn_graph.proofs.Ways.{HasWay, way_to_own, way_further, path_from_way, along_path}
 
 adjacent_too : (x y z w : Entry) → SaysAsMuch x z → SaysAsMuch y w → AreAdjacent x y → AreAdjacent z w

@@ -1,10 +1,5 @@
 -- A number that is not among numbers in ascending order, since it stands between two of them.
-use Rattle.std.proofs.Common.{◌≡◌, ℕ, ◌<◌, ◌≤◌, ◌-◌, List, length, get_or, ◌∙◌, ⊎_elim, arith, Contains}
-use Rattle.std.specs.List.Sorted.{IsStrictlySortedBy}
-use Rattle.std.specs.Ordering.{nat_cmp}
-use Rattle.std.proofs.lemmas.Bool.{cases_lt}
-use Rattle.std.proofs.lemmas.List.{get_or_default}
-use Rattle.std.proofs.lemmas.Map.Keys.{below_from_sorted}
+use Rattle.hn_base.proofs.Names.{◌≡◌, ℕ, ◌<◌, ◌≤◌, ◌-◌, List, length, get_or, ◌∙◌, ⊎_elim, arith, Contains, IsStrictlySortedBy, nat_cmp, cases_lt, get_or_default, below_from_sorted}
 use Rattle.hn_graph.specs.Search.{AreBelow, AreAbove}
 
 pub below_all : (xs : List ℕ) (place id : ℕ) → IsStrictlySortedBy nat_cmp xs → place ≤ length xs → 0 < place → get_or xs (place - 1) 0 < id → AreBelow xs place id

@@ -1,12 +1,10 @@
 -- Reachability while time passes.
-use Rattle.std.proofs.Common.{◌↔◌, ℕ, ◌+◌, ◌-◌, ◌^◌, ◌<◌, List, Contains, refl, sym, subst, arith}
+use Rattle.hn_base.proofs.Names.{◌↔◌, ℕ, ◌+◌, ◌-◌, ◌^◌, ◌<◌, List, Contains, refl, sym, subst, arith}
+use Rattle.hn_graph.proofs.Names.{Entry, IsAgeLimit, IsRecent, IsReachable, IsLike, KeepsReach}
 use Rattle.hn_base.proofs.AscendingLists.{Contains-map, Contains-from_map}
 use Rattle.hn_data.specs.View.{PlainView}
 use Rattle.hn_data.specs.Later.{IsLater, aged_entry}
-use Rattle.hn_data.specs.declared.view.Entry.{Entry}
-use Rattle.hn_graph.specs.Later.{IsAgeLimit}
-use Rattle.hn_graph.specs.Path.{IsRecent, IsReachable}
-use Rattle.hn_graph.specs.Laws.{IsLike, KeepsReach, ReachabilityOfLater}
+use Rattle.hn_graph.specs.Laws.{ReachabilityOfLater}
 use Rattle.hn_graph.proofs.Staying.{reach_stays}
 
 module _ (before after : PlainView) (later : IsLater before after) (none : (m : ℕ) → IsAgeLimit before.nodes before.now m → before.now < m → after.now < m) where

@@ -1,8 +1,7 @@
 -- What is left to mark.
-use Rattle.std.proofs.Common.{◌≡◌, ℕ, ◌<◌, Bool, true, false, not, cond, List, length, replicate, get_or, refl, arith}
-use Rattle.std.specs.List.{count_by}
+use Rattle.hn_base.proofs.Names.{◌≡◌, ℕ, ◌<◌, Bool, true, false, not, cond, List, length, replicate, get_or, refl, arith, count_by}
+use Rattle.hn_graph.proofs.Names.{IsPlaceMarked}
 use Rattle.std.proofs.lemmas.List.Folds.{sum_by-replicate}
-use Rattle.hn_graph.specs.Search.{IsPlaceMarked}
 use Rattle.hn_graph.proofs.Marking.{count_set}
 
 -- where nothing is marked, all is left

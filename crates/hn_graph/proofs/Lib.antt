@@ -1,3 +1,4 @@
+mod Names
 mod Ways
 mod WhereLinksLead
 mod Marking

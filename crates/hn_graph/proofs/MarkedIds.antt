@@ -1,19 +1,9 @@
 -- The identifiers of marked nodes, node by node.
-use Rattle.std.proofs.Common.{◌≡◌, ◌↔◌, ℕ, ◌+◌, ◌≤◌, Bool, List, [], ◌∷◌, ◌++◌, length, get_or, Some, subst, ⊎_elim, slice_get, Contains}
-use Rattle.std.specs.declared.cmp.Ordering.TheVariants.{Less}
+use Rattle.hn_base.proofs.Names.{◌≡◌, ◌↔◌, ℕ, ◌+◌, ◌≤◌, Bool, List, [], ◌∷◌, ◌++◌, length, get_or, Some, subst, ⊎_elim, slice_get, Contains, Less, nat_cmp, Contains-push, Contains-push_cases}
+use Rattle.hn_base.proofs.Names.{Contains-append_left, Less-from_sorted, slice_get_within, get_or_from_slice_get, node_cmp}
+use Rattle.hn_graph.proofs.Names.{NodeId, nothing_in, IsOfFirst, none_of_first, first_further, first_last, first_cases, first_of_all, part_stands, ids_of, Entry, IsPlaceMarked, HasFound}
 use Rattle.std.specs.List.Sorted.{IsStrictlySortedBy}
-use Rattle.std.specs.Ordering.{nat_cmp}
-use Rattle.std.proofs.lemmas.List.Elements.{Contains-push, Contains-push_cases, Contains-append_left}
-use Rattle.std.proofs.lemmas.Map.Keys.{Less-from_sorted}
-use Rattle.std.proofs.lemmas.Option.{slice_get_within, get_or_from_slice_get}
-use Rattle.hn_base.specs.NodeIds.{node_cmp}
-use Rattle.hn_base.specs.declared.ids.NodeId.{NodeId}
-use Rattle.hn_base.proofs.AscendingLists.{nothing_in, sorted_push}
-use Rattle.hn_base.proofs.AmongFirst.{IsOfFirst, none_of_first, first_further, first_last, first_cases, first_of_all}
-use Rattle.hn_base.proofs.PartsAtPlaces.{part_stands}
-use Rattle.hn_data.specs.View.{ids_of}
-use Rattle.hn_data.specs.declared.view.Entry.{Entry}
-use Rattle.hn_graph.specs.Search.{IsPlaceMarked, HasFound}
+use Rattle.hn_base.proofs.AscendingLists.{sorted_push}
 
 nothing_sorted : IsStrictlySortedBy node_cmp []
 unfolding IsStrictlySortedBy

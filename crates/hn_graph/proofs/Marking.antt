@@ -1,12 +1,7 @@
 -- Marks that are set, place by place.
-use Rattle.std.proofs.Common.{◌≡◌, ◌⊎◌, ◌≢◌, ℕ, ◌+◌, ◌<◌, Bool, true, false, not, cond, List, [], ◌∷◌, ◌++◌, length, get_or, set, refl, sym, ◌∙◌, ap, subst, inl, inr, ⊎_elim, arith, Contains}
-use Rattle.std.specs.List.{count_by}
-use Rattle.std.proofs.lemmas.Bool.{cases_eq}
-use Rattle.std.proofs.lemmas.List.{length-set, get_or-set_same, get_or-set_other, length_push}
-use Rattle.std.proofs.lemmas.List.Elements.{Contains-push, Contains-push_cases, Contains-append_left}
-use Rattle.std.proofs.lemmas.List.Sums.{sum_by-set}
-use Rattle.hn_base.proofs.AscendingLists.{nothing_in}
-use Rattle.hn_graph.specs.Search.{IsPlaceMarked, HasMarked}
+use Rattle.hn_base.proofs.Names.{◌≡◌, ◌⊎◌, ◌≢◌, ℕ, ◌+◌, ◌<◌, Bool, true, false, not, cond, List, [], ◌∷◌, ◌++◌, length, get_or, set, refl, sym, ◌∙◌, ap, subst, inl, inr, ⊎_elim, arith, Contains}
+use Rattle.hn_base.proofs.Names.{count_by, cases_eq, length-set, get_or-set_same, get_or-set_other, length_push, Contains-push, Contains-push_cases, Contains-append_left, sum_by-set}
+use Rattle.hn_graph.proofs.Names.{nothing_in, IsPlaceMarked, HasMarked}
 
 pub none_marked : (found : List Bool) (visits : List ℕ) → HasMarked [] found visits found visits
 none_marked found visits = record {

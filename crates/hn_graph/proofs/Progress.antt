@@ -1,18 +1,10 @@
 -- How far the search has come.
-use Rattle.std.proofs.Common.{◌≡◌, ◌⊎◌, ◌↔◌, ℕ, ◌<◌, ◌≤◌, Bool, false, List, [], ◌∷◌, ◌++◌, length, replicate, Some, refl, sym, ◌∙◌, ap, subst, inl, inr, ⊎_elim, arith, slice_get, Contains}
-use Rattle.std.specs.List.Sorted.{IsStrictlySortedBy}
-use Rattle.std.specs.Ordering.{nat_cmp}
-use Rattle.std.proofs.lemmas.Bool.{cases_lt}
-use Rattle.std.proofs.lemmas.List.{length-replicate, get_or-replicate, get_or_past}
-use Rattle.std.proofs.lemmas.List.Elements.{Contains-get_or, Contains-push, Contains-push_cases, Contains-append_left}
-use Rattle.std.proofs.lemmas.Option.{same_Some, slice_get_within, slice_get_read}
-use Rattle.hn_base.specs.declared.ids.NodeId.{NodeId}
-use Rattle.hn_base.proofs.AscendingLists.{Contains-one, nothing_in}
-use Rattle.hn_base.proofs.PartsAtPlaces.{part_stands, part_is, one_place, contains_at}
-use Rattle.hn_data.specs.View.{ids_of}
-use Rattle.hn_data.specs.declared.view.Entry.{Entry}
-use Rattle.hn_graph.specs.Path.{AreAdjacent, IsReachable}
-use Rattle.hn_graph.specs.Search.{IsPlaceMarked, IsNext, HasMarked, HasFound, ArePlacesNext}
+use Rattle.hn_base.proofs.Names.{◌≡◌, ◌⊎◌, ◌↔◌, ℕ, ◌<◌, ◌≤◌, Bool, false, List, [], ◌∷◌, ◌++◌, length, replicate, Some, refl, sym, ◌∙◌, ap, subst, inl, inr, ⊎_elim, arith, slice_get, Contains}
+use Rattle.hn_base.proofs.Names.{IsStrictlySortedBy, nat_cmp, cases_lt, length-replicate, get_or-replicate, Contains-get_or, Contains-push, Contains-push_cases, Contains-append_left, same_Some}
+use Rattle.hn_base.proofs.Names.{slice_get_within, slice_get_read}
+use Rattle.hn_graph.proofs.Names.{NodeId, nothing_in, part_stands, part_is, one_place, contains_at, ids_of, Entry, AreAdjacent, IsReachable, IsPlaceMarked, IsNext, HasMarked, HasFound, ArePlacesNext}
+use Rattle.std.proofs.lemmas.List.{get_or_past}
+use Rattle.hn_base.proofs.AscendingLists.{Contains-one}
 use Rattle.hn_graph.proofs.Ways.{HasWay, way_to_own, way_further, path_from_way, along_path}
 
 -- Each marked node is reached by a path, and the own one is marked. Where a path may go on from a marked node, that node

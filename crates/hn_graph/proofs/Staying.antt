@@ -1,10 +1,7 @@
 -- Paths among other nodes.
-use Rattle.std.proofs.Common.{◌≡◌, ◌∙◌, ℕ, List, Contains, sym, subst}
-use Rattle.hn_data.specs.Peers.{HasPeer, peer_link}
-use Rattle.hn_data.specs.declared.said.PeerLink.{PeerLink}
-use Rattle.hn_data.specs.declared.view.Entry.{Entry}
-use Rattle.hn_graph.specs.Path.{AreAdjacent, IsRecent, IsReachable}
-use Rattle.hn_graph.specs.Laws.{IsLike, KeepsReach, ReachabilityStays}
+use Rattle.hn_base.proofs.Names.{◌≡◌, ◌∙◌, ℕ, List, Contains, sym, subst}
+use Rattle.hn_graph.proofs.Names.{HasPeer, peer_link, PeerLink, Entry, AreAdjacent, IsRecent, IsReachable, IsLike, KeepsReach}
+use Rattle.hn_graph.specs.Laws.{ReachabilityStays}
 use Rattle.hn_graph.specs.SameLinks.{SaysSamePeers, KeepsLinks, SameLinksReach}
 use Rattle.hn_graph.proofs.Ways.{HasWay, way_to_own, way_further, path_from_way, along_path}
 

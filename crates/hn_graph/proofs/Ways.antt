@@ -1,13 +1,8 @@
 -- Paths, one node longer at their end, and what holds along them.
-use Rattle.std.proofs.Common.{◌≡◌, ℕ, ◌+◌, ◌-◌, ◌<◌, ◌≤◌, suc, List, [], ◌∷◌, ◌++◌, length, get_or, take, Some, refl, sym, ap, ⊎_elim, arith, slice_get, All, Contains}
-use Rattle.std.specs.List.{AllAdjacentBelow}
-use Rattle.std.proofs.lemmas.Bool.{cases_lt}
-use Rattle.std.proofs.lemmas.List.{length_push, get_or_append_left, get_or_push, take_at}
-use Rattle.std.proofs.lemmas.List.Elements.{All-push, All-nil, All-head, All-tail, All-same}
-use Rattle.std.proofs.lemmas.Option.{same_Some, none-some}
-use Rattle.hn_data.specs.View.{ids_of}
-use Rattle.hn_data.specs.declared.view.Entry.{Entry}
-use Rattle.hn_graph.specs.Path.{AreAdjacent, IsRecent, IsReachable}
+use Rattle.hn_base.proofs.Names.{◌≡◌, ℕ, ◌+◌, ◌-◌, ◌<◌, ◌≤◌, suc, List, [], ◌∷◌, ◌++◌, length, get_or, take, Some, refl, sym, ap, ⊎_elim, arith, slice_get, Contains, AllAdjacentBelow, cases_lt}
+use Rattle.hn_base.proofs.Names.{length_push, get_or_append_left, get_or_push, take_at, All-push, All-nil, All-head, All-tail, All-same, same_Some, none-some}
+use Rattle.hn_graph.proofs.Names.{ids_of, Entry, AreAdjacent, IsRecent, IsReachable}
+use Rattle.std.proofs.Common.{All}
 
 -- a path to the node z itself, after the nodes in front
 pub record IsWay (own : ℕ) (nodes front : List Entry) (z : Entry) : Type 0 where

@@ -1,19 +1,8 @@
 -- Where the links of a node lead.
-use Rattle.std.proofs.Common.{◌≡◌, ◌↔◌, ◌⊎◌, inl, inr, Bool, ℕ, ◌+◌, ◌≤◌, List, [], ◌∷◌, ◌++◌, length, Some, refl, sym, ap, ◌∙◌, subst, ⊎_elim, slice_get, Contains}
-use Rattle.std.specs.List.Sorted.{IsStrictlySortedBy}
-use Rattle.std.specs.Ordering.{nat_cmp}
-use Rattle.std.proofs.lemmas.Option.{slice_get_read}
-use Rattle.std.proofs.lemmas.List.Elements.{Contains-push, Contains-push_cases, Contains-append_left}
-use Rattle.hn_base.proofs.AscendingLists.{nothing_in}
-use Rattle.hn_base.proofs.AmongFirst.{IsOfFirst, none_of_first, first_further, first_last, first_cases, first_of_all}
-use Rattle.hn_base.proofs.PartsAtPlaces.{one_place, one_place_of, part_stands}
-use Rattle.hn_data.specs.View.{ids_of}
-use Rattle.hn_data.specs.Peers.{HasPeer, peer_link}
-use Rattle.hn_data.specs.declared.said.PeerLink.{PeerLink}
-use Rattle.hn_data.specs.declared.view.Entry.{Entry}
-use Rattle.hn_data.specs.Links.{IsPeerAt}
-use Rattle.hn_graph.specs.Search.{IsNext, IsPlaceMarked}
-use Rattle.hn_graph.specs.Path.{IsRecent}
+use Rattle.hn_base.proofs.Names.{◌≡◌, ◌↔◌, ◌⊎◌, inl, inr, Bool, ℕ, ◌+◌, ◌≤◌, List, [], ◌∷◌, ◌++◌, length, Some, refl, sym, ap, ◌∙◌, subst, ⊎_elim, slice_get, Contains, IsStrictlySortedBy, nat_cmp}
+use Rattle.hn_base.proofs.Names.{slice_get_read, Contains-push, Contains-push_cases, Contains-append_left}
+use Rattle.hn_graph.proofs.Names.{nothing_in, IsOfFirst, none_of_first, first_further, first_last, first_cases, first_of_all, one_place, one_place_of, part_stands, ids_of, HasPeer, peer_link}
+use Rattle.hn_graph.proofs.Names.{PeerLink, Entry, IsPeerAt, IsNext, IsPlaceMarked, IsRecent}
 
 -- one of the first n links leads to the place
 abbrev pub IsAcross : List Entry → Entry → List PeerLink → ℕ → ℕ → Type 0

@@ -1,18 +1,16 @@
 -- Handles that have a router, or none, and what the walks of their functions share.
 --     one, none          a router, and none, as a handle has them
 --     is_null, tested    the place is null if and only if there is no router; and it may be compared with null
-use Rattle.std.proofs.Common.{◌≡◌, refl, sym, Bool, true, false, lit<, subst}
-use Rattle.std.specs.Prelude.{ℕ, ◌<◌, ◌^◌, zero, Option, Some, None, IsSome, is_none}
+use Rattle.hn_handle.proofs.Names.{◌≡◌, refl, sym, subst, Option, IsSome, is_none, Ura, vbool, ent, fst∗, Logic, sem, fact, fact_i, lone, Ptr, block_ptr, null_ptr, ptr_val}
+use Rattle.std.proofs.Common.{Bool, true, false, lit<}
+use Rattle.std.specs.Prelude.{ℕ, ◌<◌, ◌^◌, zero, Some, None}
 use mathlib.Core.Bool.{true≢false}
-use seplogic.Ra.Ura.{Ura}
 use mir.Raw.{raw as bare}
 use mir.Syntax.{ptr_eq}
-use mir.Val.{vbool, vnull, op2_val}
-use base.Logic.{ent, via, fst∗, snd∗, never_e, guard, guard_i}
-use types.Logic.{Logic, sem}
-use contract.Monad.{fact, fact_i, fact_mono, fact_use}
-use denote.Memory.{lone}
-use denote.RawPtr.{Ptr, block_ptr, null_ptr, ptr_val, Testable}
+use mir.Val.{vnull, op2_val}
+use base.Logic.{via, snd∗, never_e, guard, guard_i}
+use contract.Monad.{fact_mono, fact_use}
+use denote.RawPtr.{Testable}
 use Rattle.core.specs.Ptr.{points_to}
 use Rattle.libc.specs.Heap.{chunk, chunk_start}
 use Rattle.hn_kept.specs.contracts.keeper.Keeper.{the_row}

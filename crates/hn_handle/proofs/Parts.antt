@@ -5,31 +5,18 @@
 --     Apart, heap, fits        such a box as a row, its allocator, and that its machine value has its type
 --     parts_out, parts_in      a `Parted` by value is [what the place owns; the allocator]
 --     paired                   two values make a pair
-use Rattle.std.proofs.Common.{◌≡◌, ℕ, List, [], ◌∷◌, ◌++◌, refl, sym, ap, ◌∙◌, subst}
-use mathlib.Core.Bool.{true, ◌&&◌}
-use lib.Dec.{T}
-use seplogic.Ra.Ura.{Ura}
+use Rattle.hn_handle.proofs.Names.{◌≡◌, List, [], ◌∷◌, ◌++◌, refl, sym, ap, ◌∙◌, subst, true, ◌&&◌, T, Ura, Val, vptr, vstruct, vcons, vnil, of_list, has_ty, WT, SProp, ent, id⊢, never, fst∗, Logic}
+use Rattle.hn_handle.proofs.Names.{sem, ‵, ◌$◌, move, drop, fsplit, fjoin, fpick, fpack, feq_i, feq_l, Valss, RawPtr, lone, Ptr, block_ptr, null_ptr, ptr_val, in_a_block, nothing, layout, within}
+use Rattle.hn_handle.proofs.Names.{Tuple, shape, handle_tells, Good, box_owns, and_tt}
+use Rattle.std.proofs.Common.{ℕ}
 use mir.Syntax.{Dict, Args, a_type, impl, tnil, dcons, dnil}
 use mir.Raw.{raw as bare}
-use mir.Val.{Val, vptr, vstruct, vcons, vnil, of_list, has_ty, WT}
-use base.Logic.{SProp, ent, id⊢, never, fst∗}
-use types.Logic.{Logic, sem}
-use types.Kit.{Item, Goal, Seq, Step, step, ‵, ◌$◌, move, drop, fsplit, fjoin, fjoin3, fpick, fpack, feq_i, feq_l}
-use denote.RattleType.{RattleType, Valss}
-use denote.Builtin.{RawPtr}
-use denote.Memory.{lone}
-use denote.RawPtr.{Ptr, block_ptr, null_ptr, ptr_val, in_a_block}
-use denote.Steps.{nothing}
-use denote.Param.{layout, bounded}
+use types.Kit.{Item, Goal, Seq, Step, step, fjoin3}
+use denote.RattleType.{RattleType}
+use denote.Param.{bounded}
 use denote.Param.Laws.{Laws}
-use denote.Struct.Struct.{within}
-use denote.Struct.Tuple.{Tuple}
-use denote.Struct.Owning.{shape}
 use Rattle.core.specs.declared.alloc.Allocator.{Ghosts}
-use Rattle.core.proofs.alloc.Calls.{Al, handle_tells}
-use Rattle.core.proofs.cell.Inside.{Good}
-use Rattle.std_alloc.specs.Box.Ownership.{box_owns}
-use Rattle.std_alloc.proofs.ResultValues.{and_tt}
+use Rattle.core.proofs.alloc.Calls.{Al}
 use Rattle.std_alloc.proofs.BoxSteps.Form.{Bx}
 use Rattle.hn_handle.specs.contracts.parted.Parted as parted
 

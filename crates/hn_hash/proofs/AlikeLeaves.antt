@@ -1,12 +1,8 @@
 -- What the equal texts of two lists of leaves say.
-use Rattle.std.proofs.Common.{◌≡◌, ℕ, zero, suc, ◌<◌, List, [], ◌∷◌, length, map, refl, sym, ap, ◌∙◌, arith, length-append}
-use Rattle.std.specs.Int.{w32, to_be_bytes}
-use Rattle.hn_hash.specs.Hash.{hash_of}
-use Rattle.hn_hash.specs.Network.{leaf_entry, leaf_text}
-use Rattle.hn_hash.specs.Agreement.{body_at}
-use Rattle.hn_hash.specs.declared.leaf.Leaf.{Leaf}
+use Rattle.hn_base.proofs.Names.{◌≡◌, ℕ, zero, suc, ◌<◌, List, [], ◌∷◌, length, map, refl, sym, ap, ◌∙◌, arith, length-append, w32, to_be_bytes}
+use Rattle.hn_hash.proofs.Names.{hash_of, leaf_entry, leaf_text, body_at, Leaf, same_parts}
 use Rattle.hn_hash.proofs.HashLengths.{length-entry_of, same_entries}
-use Rattle.hn_base.proofs.FrontOfList.{same_parts, head_is, tail_is}
+use Rattle.hn_base.proofs.FrontOfList.{head_is, tail_is}
 
 abbrev pub number_bytes : List Leaf → List (List ℕ)
 number_bytes leaves = map (λ leaf. to_be_bytes w32 leaf.number) leaves

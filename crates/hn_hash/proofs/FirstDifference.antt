@@ -1,12 +1,11 @@
 -- The node data in a place, and the first place where they differ.
-use Rattle.std.proofs.Common.{◌≡◌, ◌≢◌, ℕ, ◌<◌, List, [], length, get_or, Option, Some, None, sym, ap, ◌∙◌, arith, zero-le}
-use Rattle.std.specs.Prelude.{IfSome, IfNone, MatchOption}
-use Rattle.std.specs.List.{HoldsAt, AllWithin, zip}
-use Rattle.std.proofs.lemmas.List.{get_or-map, length-map, ext_get_or}
+use Rattle.hn_base.proofs.Names.{◌≡◌, ◌≢◌, ℕ, ◌<◌, List, [], length, get_or, Option, Some, None, sym, ap, ◌∙◌, arith, IfNone, MatchOption, HoldsAt, AllWithin, get_or-map, length-map}
+use Rattle.hn_hash.proofs.Names.{bodies, body_at, IsFirstDifference, Leaf}
+use Rattle.std.proofs.Common.{zero-le}
+use Rattle.std.specs.Prelude.{IfSome}
+use Rattle.std.specs.List.{zip}
+use Rattle.std.proofs.lemmas.List.{ext_get_or}
 use Rattle.std.proofs.lemmas.Slice.Zip.{length-zip, get_or-zip}
-use Rattle.hn_hash.specs.Network.{bodies}
-use Rattle.hn_hash.specs.Agreement.{body_at, IsFirstDifference}
-use Rattle.hn_hash.specs.declared.leaf.Leaf.{Leaf}
 
 -- the node data of a leaf that was read
 pub body_at-read : (leaves : List Leaf) (i : ℕ) (d : Leaf) → i < length leaves → (get_or leaves i d).body ≡ body_at leaves i

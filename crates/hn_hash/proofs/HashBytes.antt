@@ -1,13 +1,10 @@
 -- A hash consists of bytes.
-use Rattle.std.proofs.Common.{ℕ, zero, suc, List, slice_index}
-use Rattle.std.specs.Int.{w32, bytes_low_first, to_le_bytes}
-use Rattle.std.specs.List.{AllByRecursion}
-use Rattle.std.proofs.lemmas.List.Elements.{All-from_recursion}
+use Rattle.hn_base.proofs.Names.{ℕ, zero, suc, List, slice_index, w32, AllByRecursion, All-from_recursion, IsByte}
+use Rattle.hn_hash.proofs.Names.{hash_of}
+use Rattle.std.specs.Int.{bytes_low_first, to_le_bytes}
 use Rattle.md5.specs.Md5.{md5, digest_bytes}
-use Rattle.hn_base.specs.Byte.{IsByte}
 use Rattle.hn_base.proofs.BigEndian.{byte_small}
 use Rattle.hn_base.proofs.EachByRecursion.{AllByRecursion-append, AllByRecursion-take}
-use Rattle.hn_hash.specs.Hash.{hash_of}
 use Rattle.hn_hash.specs.Laws.{HashHasEightBytes}
 use Rattle.hn_hash.proofs.HashLengths.{length-hash_of}
 

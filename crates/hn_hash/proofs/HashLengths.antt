@@ -1,12 +1,7 @@
 -- How long hashes and entries are, and what equal entries say.
-use Rattle.std.proofs.Common.{◌≡◌, ℕ, List, length, refl, arith, length-append}
-use Rattle.std.specs.Int.{w32, to_be_bytes}
-use Rattle.std.proofs.lemmas.List.{length-take-le}
+use Rattle.hn_base.proofs.Names.{◌≡◌, ℕ, List, length, refl, arith, length-append, w32, to_be_bytes, length-take-le}
+use Rattle.hn_hash.proofs.Names.{hash_of, leaf_entry, Leaf, same_parts}
 use Rattle.md5.specs.Md5.{md5, digest_bytes}
-use Rattle.hn_hash.specs.Hash.{hash_of}
-use Rattle.hn_hash.specs.Network.{leaf_entry}
-use Rattle.hn_hash.specs.declared.leaf.Leaf.{Leaf}
-use Rattle.hn_base.proofs.FrontOfList.{same_parts}
 
 pub length-md5 : (text : List ℕ) → length (md5 text) ≡ 16
 unfolding md5 digest_bytes

@@ -1,3 +1,4 @@
+mod Names
 pub mod HashLengths
 pub mod AlikeLeaves
 pub mod SameOrCollide

@@ -1,11 +1,7 @@
 -- The parts of leaves: their text is that of the leaves, and their numbers are those of the leaves.
-use Rattle.std.proofs.Common.{◌≡◌, ◌^◌, ◌<◌, List, [], ◌∷◌, ◌++◌, map, refl, ap, subst}
-use Rattle.std.specs.Prelude.{All}
-use Rattle.std.specs.List.{AllByRecursion}
-use Rattle.std.proofs.lemmas.List.Elements.{recursion_from_All, All-from_recursion}
-use Rattle.hn_hash.specs.Network.{leaf_part, leaf_entry, part_text, leaf_text, ArePartsOf, AreNumbered}
-use Rattle.hn_hash.specs.declared.leaf.Leaf.{Leaf}
-use Rattle.hn_hash.specs.declared.part.Part.{Part}
+use Rattle.hn_base.proofs.Names.{◌≡◌, ◌^◌, ◌<◌, List, [], ◌∷◌, ◌++◌, map, refl, ap, subst, All, AllByRecursion, recursion_from_All, All-from_recursion}
+use Rattle.hn_hash.proofs.Names.{leaf_entry, part_text, leaf_text, AreNumbered, Leaf, Part}
+use Rattle.hn_hash.specs.Network.{leaf_part, ArePartsOf}
 
 pub part_text-map : (leaves : List Leaf) → part_text (map leaf_part leaves) ≡ leaf_text leaves
 part_text-map [] = refl

@@ -1,14 +1,8 @@
 -- Equal network hashes are those of equal leaves, or show a collision.
-use Rattle.std.proofs.Common.{◌≡◌, ℕ, suc, Bool, false, not, List, [], ◌∷◌, refl, sym, ap, ◌∙◌, inl, inr, ◌⊎◌, arith}
-use Rattle.std.specs.List.{AllByRecursion}
-use Rattle.std.specs.Str.{bytes_eq}
-use Rattle.std.proofs.lemmas.Bool.{not-false}
-use Rattle.std.proofs.lemmas.List.Elements.{recursion_from_All}
-use Rattle.std.proofs.lemmas.Slice.Eq.{bytes_eq-Decides}
+use Rattle.hn_base.proofs.Names.{◌≡◌, ℕ, suc, Bool, false, not, List, [], ◌∷◌, refl, sym, ap, ◌∙◌, inl, inr, ◌⊎◌, arith, AllByRecursion, bytes_eq, not-false, recursion_from_All, bytes_eq-Decides}
+use Rattle.hn_hash.proofs.Names.{leaf_text, bodies, AreNumbered, body_at, IsFirstDifference, Leaf}
 use Rattle.hn_hash.specs.Hash.{Collides}
-use Rattle.hn_hash.specs.Network.{leaf_text, bodies, AreNumbered}
-use Rattle.hn_hash.specs.Agreement.{body_at, CollidesInPlace, IsFirstDifference, IsExhibited, EqualHashesAgreeOrCollide}
-use Rattle.hn_hash.specs.declared.leaf.Leaf.{Leaf}
+use Rattle.hn_hash.specs.Agreement.{CollidesInPlace, IsExhibited, EqualHashesAgreeOrCollide}
 use Rattle.hn_base.proofs.BigEndian.{same_words}
 use Rattle.hn_hash.proofs.PartsOfLeaves.{HasNumber}
 use Rattle.hn_hash.proofs.AlikeLeaves.{IsAlike, IsAlike-from_texts, IsAlike-tail, IsAlike-head, same_hash_at}

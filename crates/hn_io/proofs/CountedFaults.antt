@@ -1,7 +1,6 @@
 -- How the count of faults goes on from call to call.
-use Rattle.std.proofs.Common.{◌≡◌, ◌≤◌, ◌<◌, ◌+◌, ◌^◌, ℕ, zero, suc, Bool, true, false, refl, List, [], arith}
-use Rattle.std.specs.Prelude.{◌==◌, IsTrue}
-use Rattle.std.specs.List.{list_any}
+use Rattle.hn_base.proofs.Names.{◌≡◌, ◌≤◌, ◌<◌, ◌+◌, ◌^◌, ℕ, zero, suc, Bool, true, false, refl, List, [], arith, ◌==◌, list_any}
+use Rattle.std.specs.Prelude.{IsTrue}
 use Rattle.hn_io.specs.Faults.{Counts, IsCaused}
 use Rattle.hn_io.specs.Memory.{faults_among}
 

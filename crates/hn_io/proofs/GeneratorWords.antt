@@ -1,6 +1,6 @@
 -- The stream of a generator, word by word.
 use Rattle.std.specs.Prelude.{◌≡◌, suc, Some}
-use Rattle.std.proofs.Common.{refl}
+use Rattle.hn_base.proofs.Names.{refl}
 use Rattle.rand_pcg.specs.Lcg.{Lcg, state_after}
 use Rattle.rand_pcg.specs.Pcg.{pcg32}
 use Rattle.hn_io.specs.Pcg.{pcg_word}

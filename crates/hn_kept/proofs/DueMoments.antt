@@ -1,6 +1,5 @@
 -- Something is due by 2^49.
-use Rattle.std.proofs.Common.{ℕ, ◌^◌, ◌<◌, ◌≤◌, arith, ◌⊎◌, inl, inr}
-use Rattle.std.proofs.lemmas.Bool.{cases_lt}
+use Rattle.hn_base.proofs.Names.{ℕ, ◌^◌, ◌<◌, ◌≤◌, arith, ◌⊎◌, inl, inr, cases_lt}
 use Rattle.hn_rules.specs.Due.{IsNextDue}
 use Rattle.hn_rules.specs.declared.state.State.{State}
 

@@ -1,16 +1,14 @@
 -- A router advertises at most 32 prefixes on an endpoint: each is inside another one of the at most 32 delegated prefixes that are used.
-use Rattle.std.proofs.Common.{◌≡◌, ◌≤◌, ◌==◌, Bool, true, ◌&&◌, List, length, map, Option, None, Some, sym, ap, ◌∙◌, subst, arith}
-use Rattle.std.specs.Prelude.{Contains, find}
-use Rattle.std.specs.Cmp.{IsTotalOrder}
-use Rattle.std.proofs.lemmas.Bool.{and_parts, and_from, eqb-true, eq-eqb}
-use Rattle.std.proofs.lemmas.List.{length-map}
+use Rattle.hn_base.proofs.Names.{◌≡◌, ◌≤◌, Bool, true, List, length, map, Option, None, Some, sym, ap, ◌∙◌, subst, arith, find, IsTotalOrder, and_parts, and_from, eqb-true, eq-eqb, length-map}
+use Rattle.hn_base.proofs.Names.{PlainPrefix, prefix_cmp}
+use Rattle.std.proofs.Common.{◌==◌, ◌&&◌}
+use Rattle.std.specs.Prelude.{Contains}
 use Rattle.hn_base.proofs.AscendingLists.{Contains-map, Contains-from_map}
 use Rattle.hn_base.proofs.Elements.{found_passes, passing_found}
 use Rattle.hn_base.proofs.Keys.{same_id}
 use Rattle.hn_base.proofs.PartsAtPlaces.{one_of_ascending}
 use Rattle.hn_base.proofs.Pigeonhole.{no_longer}
 use Rattle.hn_base.proofs.Prefixes.{same_prefix, prefix_total, exact_prefix}
-use Rattle.hn_base.specs.Prefix.{PlainPrefix, prefix_cmp}
 use Rattle.hn_base.specs.declared.ids.EpId.{EpId}
 use Rattle.hn_advert.specs.declared.advert.Info.{Info}
 use Rattle.hn_assign.specs.Pair.{IsAscending, assigned_pair, pair_cmp}

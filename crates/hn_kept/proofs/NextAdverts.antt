@@ -1,6 +1,5 @@
 -- An advertisement that is sent next, from the values that the code meets.
-use Rattle.std.proofs.Common.{◌≡◌, ℕ, List, length, ap, ◌∙◌, subst}
-use Rattle.std.specs.Cmp.{IsTotalOrder}
+use Rattle.hn_base.proofs.Names.{◌≡◌, ℕ, List, length, ap, ◌∙◌, subst, IsTotalOrder}
 use Rattle.hn_base.specs.declared.ids.EpId.{EpId}
 use Rattle.hn_advert.specs.declared.advert.Advert.{Advert}
 use Rattle.hn_advert.specs.declared.advert.Info.{Info}

@@ -1,5 +1,5 @@
 -- An advertisement has 16 bytes, and 32 for each prefix.
-use Rattle.std.proofs.Common.{◌≡◌, ℕ, ◌+◌, ◌*◌, ◌≤◌, List, [], ◌∷◌, length, map, refl, subst, sym, arith, length-append}
+use Rattle.hn_base.proofs.Names.{◌≡◌, ℕ, ◌+◌, ◌*◌, ◌≤◌, List, [], ◌∷◌, length, map, refl, subst, sym, arith, length-append}
 use Rattle.hn_base.specs.declared.ids.EpId.{EpId}
 use Rattle.hn_advert.specs.declared.advert.Advert.{Advert}
 use Rattle.hn_advert.specs.declared.advert.Info.{Info}

@@ -1,6 +1,6 @@
 -- The stream of a generator, word by word.
 use Rattle.std.specs.Prelude.{◌≡◌, suc, Some}
-use Rattle.std.proofs.Common.{refl}
+use Rattle.hn_base.proofs.Names.{refl}
 use Rattle.rand_chacha.specs.ChaCha.{ChaCha, next_word}
 use Rattle.hn_kept.specs.Words.{chacha_after, chacha_word}
 

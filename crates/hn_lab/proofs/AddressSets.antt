@@ -1,18 +1,9 @@
 -- In the set of a settled router whose routers are still no address is published twice.
-use Rattle.std.proofs.Common.{◌≡◌, ◌≢◌, ◌<◌, Contains, sym, ap, subst, inl, inr, arith}
-use Rattle.std.proofs.lemmas.Bool.{cases_lt}
+use Rattle.hn_base.proofs.Names.{◌≡◌, ◌≢◌, ◌<◌, Contains, sym, ap, subst, inl, inr, arith, cases_lt}
+use Rattle.hn_lab.proofs.Names.{StillAddressesStay, same_node, NodeId, HasVersion, OwnAddress, OwnVersionIsSaid, OwnAddressesAreSaid, seen_by, Member, Parts, IsReached, AreAddressesStill}
 use Rattle.hn_addr.specs.Addresses.{IsAddressOfOther}
-use Rattle.hn_addr.specs.Laws.{StillAddressesStay}
-use Rattle.hn_base.proofs.Keys.{same_node}
-use Rattle.hn_base.specs.declared.ids.NodeId.{NodeId}
-use Rattle.hn_data.specs.Said.{HasVersion, HasAddress}
-use Rattle.hn_own.specs.Addresses.{OwnAddress}
-use Rattle.hn_rules.specs.Laws.{OwnVersionIsSaid, OwnAddressesAreSaid}
-use Rattle.hn_rules.specs.Seen.{seen_by}
-use Rattle.hn_world.specs.declared.member.Member.{Member}
-use Rattle.hn_world.specs.declared.parts.Parts.{Parts}
-use Rattle.hn_audit.specs.Reached.{IsReached}
-use Rattle.hn_lab.specs.AddressReports.{AreAddressesStill, AreAlone}
+use Rattle.hn_data.specs.Said.{HasAddress}
+use Rattle.hn_lab.specs.AddressReports.{AreAlone}
 use Rattle.hn_lab.proofs.Sets.{IsKnown, router_of, seen_of}
 
 module _ (version : OwnVersionIsSaid) (said : OwnAddressesAreSaid) (stays : StillAddressesStay) (w : Parts) (r : Member) (known : IsKnown w r) (still : AreAddressesStill w r) where

@@ -1,11 +1,6 @@
 -- The text of the reports on addresses.
-use Rattle.std.proofs.Common.{◌≡◌, ◌∙◌, ℕ, List, [], ◌∷◌, ◌++◌, ap, length}
-use Rattle.std.specs.Prelude.{map, codes}
-use Rattle.std.specs.Fmt.{decimal}
-use Rattle.hn_base.specs.Name.{name_text}
-use Rattle.hn_base.specs.declared.name.Name.{Name}
-use Rattle.hn_own.specs.Addresses.{OwnAddress}
-use Rattle.hn_lab.specs.AddressReports.{address_line}
+use Rattle.hn_base.proofs.Names.{◌≡◌, ◌∙◌, ℕ, List, [], ◌∷◌, ◌++◌, ap, length, decimal, name_text}
+use Rattle.hn_lab.proofs.Names.{map, codes, Name, OwnAddress, address_line}
 
 -- the lines on these addresses, of which the first says how many they are
 abbrev pub addresses_head : Name → List OwnAddress → List ℕ

@@ -1,22 +1,7 @@
 -- A router that chooses for itself: how the two words for it end.
-use Rattle.std.proofs.Common.{◌≡◌, ◌∙◌, ◌+◌, ℕ, List, [], length, Option, None, Some, inl, refl, ap, subst, arith}
+use Rattle.hn_base.proofs.Names.{◌≡◌, ◌∙◌, ◌+◌, ℕ, List, [], length, Option, None, Some, inl, refl, ap, subst, arith, same_Some, name_text, Begins, IsAt, Took}
+use Rattle.hn_lab.proofs.Names.{Name, State, WEvent, Member, member_named, unless_runs, Stop, Refused, TakesWords, MayHappen, MakesChoice, Chooses, Leaves, Unless, ThenProcess, Stage, TellsLines}
 use Rattle.std.proofs.Math.Nat.{zero-add}
-use Rattle.std.proofs.lemmas.Option.{same_Some}
-use Rattle.hn_base.specs.Name.{name_text}
-use Rattle.hn_base.specs.Words.{Begins, IsAt, Took}
-use Rattle.hn_base.specs.declared.name.Name.{Name}
-use Rattle.hn_rules.specs.declared.state.State.{State}
-use Rattle.hn_world.specs.declared.event.WEvent.{WEvent}
-use Rattle.hn_world.specs.declared.member.Member.{Member}
-use Rattle.hn_world.specs.Names.{member_named}
-use Rattle.hn_world.specs.Asked.{unless_runs}
-use Rattle.hn_lab.specs.declared.end.Stop.{Stop}
-use Rattle.hn_lab.specs.declared.end.Stop.TheVariants.{Refused}
-use Rattle.hn_lab.specs.Choosing.{TakesWords, MayHappen, MakesChoice, Chooses}
-use Rattle.hn_lab.specs.Ended.{Leaves}
-use Rattle.hn_lab.specs.Process.{Unless, ThenProcess}
-use Rattle.hn_lab.specs.Stage.{Stage}
-use Rattle.hn_lab.specs.Tells.{TellsLines}
 use Rattle.hn_lab.proofs.RunStops.{then_on}
 
 -- the words that a draw took are the first to come, and those after them are to come then

@@ -1,14 +1,6 @@
 -- Two ends of one process agree: they are one, or one of them was cut short and its text is a front of the other's.
-use Rattle.std.proofs.Common.{◌≡◌, ◌∙◌, ◌⊎◌, inl, inr, ℕ, List, [], ◌∷◌, ◌++◌, append_assoc, append-nil, Option, None, Some, refl, sym, ap, subst}
-use Rattle.std.specs.Prelude.{⊤}
-use Rattle.std.proofs.lemmas.Option.{same_Some, none-some}
-use Rattle.hn_rules.specs.declared.done.Note.{Note}
-use Rattle.hn_lab.specs.declared.end.Stop.{Stop}
-use Rattle.hn_lab.specs.declared.end.Stop.TheVariants.{Refused, WireFailed, Cut}
-use Rattle.hn_lab.specs.Laws.{IsTold}
-use Rattle.hn_lab.specs.Process.{Process, Nothing, Unless, ThenProcess, EachProcess}
-use Rattle.hn_lab.specs.Stage.{Stage}
-use Rattle.hn_lab.specs.Told.{Told}
+use Rattle.hn_base.proofs.Names.{◌≡◌, ◌∙◌, ◌⊎◌, inl, inr, ℕ, List, [], ◌∷◌, ◌++◌, append_assoc, Option, None, Some, refl, sym, ap, subst, ⊤, same_Some, none-some}
+use Rattle.hn_lab.proofs.Names.{append-nil, Note, Stop, Refused, WireFailed, Cut, IsTold, Process, Nothing, Unless, ThenProcess, EachProcess, Stage, Told}
 
 -- ---- texts that grow
 

@@ -1,38 +1,14 @@
 -- Where the wire ends a play, all could as well have been cut right before the copy that failed.
-use Rattle.std.proofs.Common.{◌≡◌, ◌∙◌, ◌⊎◌, ◌<◌, inl, inr, ℕ, zero, suc, Bool, true, false, List, [], ◌∷◌, ◌++◌, Option, None, Some, refl, sym, ap, subst}
-use Rattle.hn_base.specs.declared.name.Name.{Name}
-use Rattle.hn_io.specs.declared.fault.IoFault.{IoFault}
-use Rattle.hn_rules.specs.declared.done.Note.{Note}
-use Rattle.hn_rules.specs.declared.state.State.{State}
-use Rattle.hn_addr.specs.Addresses.{IsChoice}
-use Rattle.hn_ula.specs.Ula.{Decides}
-use Rattle.hn_script.specs.declared.line.Line.{Line}
+use Rattle.hn_base.proofs.Names.{◌≡◌, ◌∙◌, ◌⊎◌, ◌<◌, inl, inr, ℕ, zero, suc, Bool, true, false, List, [], ◌∷◌, ◌++◌, Option, None, Some, refl, sym, ap, subst}
+use Rattle.hn_lab.proofs.Names.{Name, IoFault, Note, State, IsChoice, Decides, Line, Datagram, Sends, MailCopy, WEvent, Carried, Same, Lost, Other, Stop, Refused, WireFailed, Cut, Breaks, MayHappen}
+use Rattle.hn_lab.proofs.Names.{MakesChoice, Chooses, chosen_event, decided_event, EventNotes, EventEnds, Replaces, ComesTo, IsBroken, DeliveryEnds, injection_for, TreatmentEnds, CopyEnds, HasWaiting}
+use Rattle.hn_lab.proofs.Names.{Flow, Ticks, Passes, Round, Runs, drawn, is_lost, IsTold, ResultsAreUnique, Noted, Delivered, Sets, OtherEnds, Follows, EndsAs, EndsBy, LineEnds, receiver, injection}
+use Rattle.hn_lab.proofs.Names.{event_of, report_of, LineSaid, LinesDone, Process, Nothing, Unless, ThenProcess, EachProcess, Times, Until, unless_report, IsReport, Report, MayTurn, TurnEnds, Turns}
+use Rattle.hn_lab.proofs.Names.{TickEnds, Solicits, Stage, Route, Mail, Ports, Exchanges, TellsLines, TellsSome, Reports, note_lines, ula_line}
 use Rattle.hn_script.specs.declared.line.Line.TheVariants as line
-use Rattle.hn_wire.specs.declared.datagram.Datagram.{Datagram}
-use Rattle.hn_wire.specs.Wires.{Sends}
-use Rattle.hn_world.specs.declared.copies.MailCopy.{MailCopy}
-use Rattle.hn_world.specs.declared.event.WEvent.{WEvent}
 use Rattle.hn_world.specs.declared.event.WEvent.TheVariants as event
-use Rattle.hn_lab.specs.declared.carrying.Carried.{Carried}
-use Rattle.hn_lab.specs.declared.carrying.Carried.TheVariants.{Same, Lost, Other}
-use Rattle.hn_lab.specs.declared.end.Stop.{Stop}
-use Rattle.hn_lab.specs.declared.end.Stop.TheVariants.{Refused, WireFailed, Cut}
 use Rattle.hn_lab.specs.Breaking.{CopyFails, WireFailsAtACopy}
-use Rattle.hn_lab.specs.Carrying.{Breaks, sent_from}
-use Rattle.hn_lab.specs.Choosing.{MayHappen, MakesChoice, Chooses, chosen_event, decided_event}
-use Rattle.hn_lab.specs.Delivery.{EventNotes, EventEnds, Replaces, ComesTo, IsBroken, DeliveryEnds, injection_for}
-use Rattle.hn_lab.specs.Events.{TreatmentEnds, CopyEnds, HasWaiting, Flow, Ticks, Passes, Round, Runs, drawn, is_lost}
-use Rattle.hn_lab.specs.Laws.{IsTold, ResultsAreUnique}
-use Rattle.hn_lab.specs.Line.{Noted, Delivered, Sets, OtherEnds, Follows, EndsAs, EndsBy, LineEnds, receiver, injection, event_of, report_of}
-use Rattle.hn_lab.specs.Play.{LineSaid, LinesDone}
-use Rattle.hn_lab.specs.Process.{Process, Nothing, Unless, ThenProcess, EachProcess, Times, Until}
-use Rattle.hn_lab.specs.Report.{unless_report, IsReport}
-use Rattle.hn_lab.specs.declared.report.Report.{Report}
-use Rattle.hn_lab.specs.Sending.{MayTurn, TurnEnds, Turns, TickEnds, Solicits}
-use Rattle.hn_lab.specs.Stage.{Stage, Route, Mail, Ports}
-use Rattle.hn_lab.specs.Syncing.{Exchanges}
-use Rattle.hn_lab.specs.Tells.{TellsLines, TellsSome, Reports, note_lines}
-use Rattle.hn_lab.specs.UlaReports.{ula_line}
+use Rattle.hn_lab.specs.Carrying.{sent_from}
 use Rattle.hn_lab.proofs.LawAlike.{KeepsTold, apart}
 use Rattle.hn_lab.proofs.LawCarry.{tells_sent}
 use Rattle.hn_lab.proofs.LawEvents.{drawn_stays, noting_delivery, sole_copy, sole_ticks, sole_passes, sole_round}

@@ -1,14 +1,8 @@
 -- Where the wire tells what waits, a copy is carried to one thing.
-use Rattle.std.proofs.Common.{◌≡◌, ◌∙◌, ◌+◌, ℕ, List, [], ◌∷◌, ◌++◌, Option, None, Some, refl, sym, ap, subst, slice_get}
-use Rattle.std.specs.Prelude.{remove}
-use Rattle.std.proofs.lemmas.Option.{same_Some, none-some}
-use Rattle.hn_wire.specs.declared.datagram.Datagram.{Datagram}
-use Rattle.hn_wire.specs.Wires.{Arrived, Sends, TakesAt, TakesOf, TakesFirst}
-use Rattle.hn_lab.specs.declared.carrying.Carried.{Carried}
-use Rattle.hn_lab.specs.declared.carrying.Carried.TheVariants.{Same, Lost, Other}
-use Rattle.hn_lab.specs.Carrying.{IsCarried, CarriesOver, Carries}
-use Rattle.hn_lab.specs.Laws.{IsTold}
-use Rattle.hn_lab.specs.Stage.{Route, Mail, Ports}
+use Rattle.hn_base.proofs.Names.{◌≡◌, ◌∙◌, ◌+◌, ℕ, List, [], ◌∷◌, ◌++◌, Option, None, Some, refl, sym, ap, subst, slice_get, remove, same_Some, none-some}
+use Rattle.hn_lab.proofs.Names.{Datagram, Sends, Carried, Same, Lost, Other, Carries, IsTold, Route, Mail, Ports}
+use Rattle.hn_wire.specs.Wires.{Arrived, TakesAt, TakesOf, TakesFirst}
+use Rattle.hn_lab.specs.Carrying.{IsCarried, CarriesOver}
 
 -- ---- what is taken
 

@@ -1,19 +1,6 @@
 -- What a router chooses for itself ends in one way.
-use Rattle.std.proofs.Common.{◌≡◌, ◌∙◌, ℕ, List, Option, None, Some, sym, ap, subst}
-use Rattle.std.proofs.lemmas.Option.{same_Some}
-use Rattle.hn_base.specs.Words.{Begins}
-use Rattle.hn_base.specs.declared.name.Name.{Name}
-use Rattle.hn_rules.specs.declared.state.State.{State}
-use Rattle.hn_world.specs.declared.event.WEvent.{WEvent}
-use Rattle.hn_world.specs.declared.member.Member.{Member}
-use Rattle.hn_world.specs.Laws.{StepIsUnique}
-use Rattle.hn_world.specs.Asked.{unless_runs}
-use Rattle.hn_lab.specs.declared.end.Stop.{Stop}
-use Rattle.hn_lab.specs.Choosing.{TakesWords, MayHappen, MakesChoice, Chooses}
-use Rattle.hn_lab.specs.Laws.{IsTold}
-use Rattle.hn_lab.specs.Process.{Unless, ThenProcess}
-use Rattle.hn_lab.specs.Stage.{Stage}
-use Rattle.hn_lab.specs.Tells.{TellsLines}
+use Rattle.hn_base.proofs.Names.{◌≡◌, ◌∙◌, ℕ, List, Option, None, Some, sym, ap, subst, same_Some, Begins}
+use Rattle.hn_lab.proofs.Names.{Name, State, WEvent, Member, StepIsUnique, unless_runs, Stop, TakesWords, MayHappen, MakesChoice, Chooses, IsTold, Unless, ThenProcess, Stage, TellsLines}
 use Rattle.hn_lab.proofs.LawAlike.{Grows, grows_from, Agree, IsSole, sole_at, sole_nothing, sole_unless, sole_then}
 use Rattle.hn_lab.proofs.LawEvents.{sole_event}
 use Rattle.hn_lab.proofs.LawTells.{sole_tells}

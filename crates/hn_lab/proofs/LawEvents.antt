@@ -1,27 +1,11 @@
 -- An event, a delivery, a flow and a run end in one way.
-use Rattle.std.proofs.Common.{◌≡◌, ◌∙◌, ◌<◌, inl, inr, ℕ, suc, Bool, true, false, List, Option, None, Some, refl, sym, ap, subst, slice_get, arith}
-use Rattle.std.specs.Prelude.{◌+◌, ◌||◌, ◌==◌, if◌then◌else◌, min}
-use Rattle.std.proofs.lemmas.Option.{same_Some}
-use Rattle.hn_base.specs.declared.name.Name.{Name}
-use Rattle.hn_router.specs.Laws.{RouterHasOneAdvert}
-use Rattle.hn_rules.specs.declared.done.Note.{Note}
-use Rattle.hn_world.specs.declared.copies.MailCopy.{MailCopy}
-use Rattle.hn_world.specs.declared.event.WEvent.{WEvent}
+use Rattle.hn_base.proofs.Names.{◌≡◌, ◌∙◌, ◌<◌, inl, inr, ℕ, suc, Bool, true, false, List, Option, None, Some, refl, sym, ap, subst, slice_get, arith, ◌||◌, ◌==◌, if◌then◌else◌, same_Some}
+use Rattle.hn_lab.proofs.Names.{Name, RouterHasOneAdvert, Note, MailCopy, WEvent, is_away, running_names, refusal, StepIsUnique, Carried, Same, Lost, Other, Stop, Refused, WireFailed, Cut, Carries}
+use Rattle.hn_lab.proofs.Names.{Happens, EventNotes, EventEnds, injection_for, Replaces, ComesTo, Conveys, DeliveryEnds, TreatmentEnds, CopyEnds, HasWaiting, Flow, Ticks, Passes, Round, Runs, drawn}
+use Rattle.hn_lab.proofs.Names.{is_lost, IsTold, AdvertIsUnique, Unless, ThenProcess, EachProcess, Until, Turns, TickEnds, Stage, Route}
+use Rattle.std.specs.Prelude.{◌+◌, min}
 use Rattle.hn_world.specs.declared.event.WEvent.TheVariants as event
-use Rattle.hn_world.specs.Receivers.{is_away, running_names}
-use Rattle.hn_world.specs.Refusal.{refusal}
-use Rattle.hn_world.specs.Laws.{StepIsUnique}
-use Rattle.hn_lab.specs.declared.carrying.Carried.{Carried}
-use Rattle.hn_lab.specs.declared.carrying.Carried.TheVariants.{Same, Lost, Other}
-use Rattle.hn_lab.specs.declared.end.Stop.{Stop}
-use Rattle.hn_lab.specs.declared.end.Stop.TheVariants.{Refused, WireFailed, Cut}
-use Rattle.hn_lab.specs.Carrying.{Carries}
-use Rattle.hn_lab.specs.Delivery.{Happens, EventNotes, EventEnds, injection_for, Replaces, ComesTo, IsConveyed, Conveys, DeliveryEnds}
-use Rattle.hn_lab.specs.Events.{TreatmentEnds, CopyEnds, HasWaiting, Flow, Ticks, Passes, Round, Runs, drawn, is_lost}
-use Rattle.hn_lab.specs.Laws.{IsTold, AdvertIsUnique}
-use Rattle.hn_lab.specs.Process.{Unless, ThenProcess, EachProcess, Until}
-use Rattle.hn_lab.specs.Sending.{Turns, TickEnds}
-use Rattle.hn_lab.specs.Stage.{Stage, Route}
+use Rattle.hn_lab.specs.Delivery.{IsConveyed}
 use Rattle.hn_lab.proofs.LawAlike.{Grows, grows_none, grows_from, Agree, AreOne, FirstIsShort, SecondIsShort, IsCutShort, apart, IsSole, IsSoleNoting, sole_notes, sole_at, noting_at, IsStill}
 use Rattle.hn_lab.proofs.LawAlike.{alike_still, grows_still, sole_unless, sole_then, sole_each, then_noting}
 use Rattle.hn_lab.proofs.LawCarry.{one_carriage, still_told}

@@ -1,24 +1,10 @@
 -- A line of a script ends in one way.
-use Rattle.std.proofs.Common.{◌≡◌, ◌∙◌, ℕ, [], ◌∷◌, Option, None, Some, refl, sym, ap, subst}
-use Rattle.hn_addr.specs.Addresses.{IsChoice}
-use Rattle.hn_base.specs.declared.name.Name.{Name}
-use Rattle.hn_script.specs.declared.line.Line.{Line}
+use Rattle.hn_base.proofs.Names.{◌≡◌, ◌∙◌, ℕ, [], ◌∷◌, Option, None, Some, refl, sym, ap, subst}
+use Rattle.hn_lab.proofs.Names.{IsChoice, Name, Line, Decides, WEvent, StepIsUnique, Report, chosen_event, decided_event, EventNotes, EventEnds, DeliveryEnds, IsTold, ResultsAreUnique, Noted}
+use Rattle.hn_lab.proofs.Names.{Delivered, Sets, OtherEnds, Follows, EndsAs, EndsBy, LineEnds, event_of, report_of, receiver, injection, seeded, Unless, ThenProcess, unless_elects, Solicits, starting}
+use Rattle.hn_lab.proofs.Names.{ending, ending_all, Stage, TellsLines, note_lines, ula_line}
 use Rattle.hn_script.specs.declared.line.Line.TheVariants as line
-use Rattle.hn_ula.specs.Ula.{Decides}
-use Rattle.hn_world.specs.declared.event.WEvent.{WEvent}
 use Rattle.hn_world.specs.declared.event.WEvent.TheVariants as event
-use Rattle.hn_world.specs.Laws.{StepIsUnique}
-use Rattle.hn_lab.specs.declared.report.Report.{Report}
-use Rattle.hn_lab.specs.Choosing.{chosen_event, decided_event}
-use Rattle.hn_lab.specs.Delivery.{EventNotes, EventEnds, DeliveryEnds}
-use Rattle.hn_lab.specs.Laws.{IsTold, ResultsAreUnique}
-use Rattle.hn_lab.specs.Line.{Noted, Delivered, Sets, OtherEnds, Follows, EndsAs, EndsBy, LineEnds, event_of, report_of, receiver, injection, seeded}
-use Rattle.hn_lab.specs.Process.{Unless, ThenProcess}
-use Rattle.hn_lab.specs.Report.{unless_elects}
-use Rattle.hn_lab.specs.Sending.{Solicits, starting, ending, ending_all}
-use Rattle.hn_lab.specs.Stage.{Stage}
-use Rattle.hn_lab.specs.Tells.{TellsLines, note_lines}
-use Rattle.hn_lab.specs.UlaReports.{ula_line}
 use Rattle.hn_lab.proofs.LawAlike.{grows_none, AreOne, IsSole, sole_at, sole_nothing, sole_unless, sole_then, noting_then}
 use Rattle.hn_lab.proofs.LawChoosings.{sole_choice}
 use Rattle.hn_lab.proofs.LawEvents.{noting_event, sole_event, noting_delivery, sole_flow, sole_run}

@@ -1,23 +1,10 @@
 -- Lines have at most one play, and what of it was cut short has a front of its text.
-use Rattle.std.proofs.Common.{◌≡◌, ◌∙◌, ◌⊎◌, inl, inr, ℕ, List, [], ◌∷◌, ◌++◌, append-nil, length, Option, None, Some, refl, sym, ap, subst}
-use Rattle.std.specs.Prelude.{⊤}
+use Rattle.hn_base.proofs.Names.{◌≡◌, ◌∙◌, ◌⊎◌, inl, inr, ℕ, List, [], ◌∷◌, ◌++◌, length, Option, None, Some, refl, sym, ap, subst, ⊤}
+use Rattle.hn_lab.proofs.Names.{append-nil, IoFault, Failed, Line, End, Stop, Refused, WireFailed, Cut, IsTold, IsUnbroken, ResultsAreUnique, CutTextsAreFronts, LineEnds, LineSaid, LinesDone, StopsAt}
+use Rattle.hn_lab.proofs.Names.{IsPlay, IsCut, IsCutPlay, Process, Nothing, ThenProcess, refused_line, Stage, TellsLines, Told}
 use Rattle.std.proofs.lemmas.List.{same_from_push}
 use Rattle.hn_base.proofs.FrontOfList.{same_parts}
-use Rattle.hn_io.specs.declared.fault.IoFault.{IoFault}
-use Rattle.hn_io.specs.declared.fault.IoFault.TheVariants.{Failed}
-use Rattle.hn_script.specs.declared.line.Line.{Line}
-use Rattle.hn_lab.specs.declared.end.End.{End}
 use Rattle.hn_lab.specs.declared.end.End.TheVariants as end
-use Rattle.hn_lab.specs.declared.end.Stop.{Stop}
-use Rattle.hn_lab.specs.declared.end.Stop.TheVariants.{Refused, WireFailed, Cut}
-use Rattle.hn_lab.specs.Laws.{IsTold, IsUnbroken, ResultsAreUnique, CutTextsAreFronts}
-use Rattle.hn_lab.specs.Line.{LineEnds}
-use Rattle.hn_lab.specs.Play.{LineSaid, LinesDone, StopsAt, IsPlay, IsCut, IsCutPlay}
-use Rattle.hn_lab.specs.Process.{Process, Nothing, ThenProcess}
-use Rattle.hn_lab.specs.Reports.{refused_line}
-use Rattle.hn_lab.specs.Stage.{Stage}
-use Rattle.hn_lab.specs.Tells.{TellsLines}
-use Rattle.hn_lab.specs.Told.{Told}
 use Rattle.hn_lab.proofs.LawAlike.{Grows, grows_none, grows_on, IsCutShort, Agree, AreOne, FirstIsShort, SecondIsShort, turned, both_done, apart, IsSole, sole_nothing, sole_then}
 use Rattle.hn_lab.proofs.LawLines.{sole_line}
 use Rattle.hn_lab.proofs.LawTells.{tells_agree, grows_tells}

@@ -1,37 +1,14 @@
 -- A report tells one thing.
-use Rattle.std.proofs.Common.{◌≡◌, ◌∙◌, ◌⊎◌, inl, inr, ℕ, Bool, true, false, List, [], ◌∷◌, refl, sym, ap, subst}
-use Rattle.std.specs.Prelude.{◌++◌, ◌↔◌, cond, IsTrue, Contains, count_by, filter, length, codes, MatchOption}
-use Rattle.std.specs.Fmt.{decimal}
-use Rattle.std.proofs.lemmas.List.Sums.{length-filter}
-use Rattle.std.proofs.lemmas.Option.{same_Some}
-use Rattle.hn_base.proofs.AscendingLists.{Contains-head, Contains-tail}
-use Rattle.hn_base.specs.Name.{name_text}
-use Rattle.hn_base.specs.Prefix.{PlainPrefix}
-use Rattle.hn_base.specs.declared.ids.EpId.{EpId}
-use Rattle.hn_base.specs.declared.ids.NodeId.{NodeId}
-use Rattle.hn_base.specs.declared.letter.Letter.{Letter}
-use Rattle.hn_base.specs.declared.name.Name.{Name}
+use Rattle.hn_base.proofs.Names.{◌≡◌, ◌∙◌, ◌⊎◌, inl, inr, ℕ, Bool, true, false, List, [], ◌∷◌, refl, sym, ap, subst, MatchOption, decimal, length-filter, same_Some, name_text, PlainPrefix}
+use Rattle.hn_lab.proofs.Names.{◌↔◌, IsTrue, Contains, filter, codes, Contains-head, Contains-tail, EpId, NodeId, Letter, Name, seen_by, leaves_of, IsOwnOf, Member, Parts, About, Report, IsAddressed}
+use Rattle.hn_lab.proofs.Names.{IsAddressedLine, IsAdvertLine, advert_line, IsAudited, IsAuditLine, audit_line, ResultsAreUnique, AreUsedLines, used_lines, IsElectLine, elect_line, Tells, Compares}
+use Rattle.hn_lab.proofs.Names.{mail_report, unless_report, IsAbout, IsReport, ReportEnds, compare_line, show_line, hash_line, Stage, Reports, IsUlaCount, IsUlasTold, IsUlasLine}
+use Rattle.std.specs.Prelude.{◌++◌, cond, count_by, length}
 use Rattle.hn_link.specs.Election.{IsElected, HasNoCandidate}
-use Rattle.hn_rules.specs.Seen.{seen_by}
-use Rattle.hn_rules.specs.Nodes.{leaves_of}
-use Rattle.hn_ula.specs.Ula.{IsOwnOf}
-use Rattle.hn_world.specs.declared.member.Member.{Member}
-use Rattle.hn_world.specs.declared.parts.Parts.{Parts}
 use Rattle.hn_world.specs.Laws.{AgreementIsUnique}
-use Rattle.hn_lab.specs.declared.report.About.{About}
 use Rattle.hn_lab.specs.declared.report.About.TheVariants as about
-use Rattle.hn_lab.specs.declared.report.Report.{Report}
 use Rattle.hn_lab.specs.declared.report.Report.TheVariants as report
-use Rattle.hn_lab.specs.AddressReports.{IsAddressed, IsAddressedLine}
-use Rattle.hn_lab.specs.AdvertReports.{IsAdvertLine, advert_line}
-use Rattle.hn_lab.specs.AuditReports.{IsAudited, IsAuditLine, audit_line}
-use Rattle.hn_lab.specs.Laws.{ResultsAreUnique}
-use Rattle.hn_lab.specs.PrefixReports.{AreUsedLines, used_lines, IsElectLine, elect_line}
-use Rattle.hn_lab.specs.Report.{Tells, Compares, mail_report, unless_report, IsAbout, IsReport, ReportEnds}
-use Rattle.hn_lab.specs.Reports.{IsCompareLine, compare_line, show_line, hash_line}
-use Rattle.hn_lab.specs.Stage.{Stage}
-use Rattle.hn_lab.specs.Tells.{Reports}
-use Rattle.hn_lab.specs.UlaReports.{IsUlaCount, IsUlasTold, IsUlasLine}
+use Rattle.hn_lab.specs.Reports.{IsCompareLine}
 use Rattle.hn_lab.proofs.LawAlike.{IsSole, sole_at}
 use Rattle.hn_lab.proofs.LawTells.{IsOneReport, one_line, sole_reports}
 

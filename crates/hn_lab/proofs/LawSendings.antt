@@ -1,25 +1,9 @@
 -- Router Advertisements are sent in one way.
-use Rattle.std.proofs.Common.{◌≡◌, ◌∙◌, ◌⊎◌, inl, inr, ℕ, Bool, true, false, List, Option, None, Some, refl, sym, ap, subst}
-use Rattle.std.specs.Prelude.{if◌then◌else◌, position, slice_get}
-use Rattle.std.proofs.lemmas.Option.{same_Some, none-some}
-use Rattle.hn_advert.specs.Advert.{IsAdvert, advert_bytes}
-use Rattle.hn_advert.specs.declared.advert.Advert.{Advert}
-use Rattle.hn_base.specs.declared.ids.EpId.{EpId}
-use Rattle.hn_base.specs.declared.name.Name.{Name}
-use Rattle.hn_radv.specs.Sender.{PlainSender, solicited, is_due}
-use Rattle.hn_router.specs.Advertising.{IsAdvertAt}
-use Rattle.hn_router.specs.Laws.{RouterHasOneAdvert}
-use Rattle.hn_rules.specs.declared.state.State.{State}
-use Rattle.hn_world.specs.declared.member.Member.{Member}
-use Rattle.hn_lab.specs.declared.end.Stop.{Stop}
-use Rattle.hn_lab.specs.declared.senders.Sending.{Sending}
-use Rattle.hn_lab.specs.declared.senders.Shape.{Shape}
-use Rattle.hn_lab.specs.Laws.{IsTold, AdvertIsUnique}
-use Rattle.hn_lab.specs.Process.{Nothing, EachProcess}
-use Rattle.hn_lab.specs.Senders.{shape_of, sends_at, sender_endpoints, IsSenderAt}
-use Rattle.hn_lab.specs.Sending.{ra_line, IsAsked, IsDue, line_if, sending_now, with_this, drawing, IsTurn, HasNoTurn, MayTurn, TurnEnds, Turns, IsSolicited, Solicits}
-use Rattle.hn_lab.specs.Stage.{Stage}
-use Rattle.hn_lab.specs.Tells.{TellsLines}
+use Rattle.hn_base.proofs.Names.{◌≡◌, ◌∙◌, ◌⊎◌, inl, inr, ℕ, Bool, true, false, List, Option, None, Some, refl, sym, ap, subst, if◌then◌else◌, same_Some, none-some}
+use Rattle.hn_lab.proofs.Names.{position, IsAdvert, advert_bytes, Advert, EpId, Name, PlainSender, solicited, is_due, IsAdvertAt, RouterHasOneAdvert, State, Member, Stop, Sending, Shape, IsTold}
+use Rattle.hn_lab.proofs.Names.{AdvertIsUnique, Nothing, EachProcess, shape_of, sends_at, sender_endpoints, IsSenderAt, ra_line, IsAsked, IsDue, line_if, sending_now, with_this, drawing, IsTurn}
+use Rattle.hn_lab.proofs.Names.{HasNoTurn, MayTurn, TurnEnds, Turns, IsSolicited, Solicits, Stage, TellsLines}
+use Rattle.std.specs.Prelude.{slice_get}
 use Rattle.hn_lab.proofs.LawAlike.{Grows, grows_none, grows_from, Agree, AreOne, IsSole, sole_at, sole_nothing, sole_then, sole_each}
 use Rattle.hn_lab.proofs.LawTells.{sole_tells}
 

@@ -1,14 +1,7 @@
 -- An exchange ends in one way.
-use Rattle.std.proofs.Common.{◌≡◌, ◌∙◌, ℕ, Option, None, Some, sym, ap, subst}
-use Rattle.hn_base.specs.declared.name.Name.{Name}
-use Rattle.hn_sync.specs.Exchange.{unless_exchange}
+use Rattle.hn_base.proofs.Names.{◌≡◌, ◌∙◌, ℕ, Option, None, Some, sym, ap, subst}
+use Rattle.hn_lab.proofs.Names.{Name, unless_exchange, Stop, Refused, WireFailed, Cut, IsTold, Unless, ThenProcess, Stage, Syncs, Exchanges, SyncEnds}
 use Rattle.hn_sync.specs.Laws.{ExchangeIsUnique}
-use Rattle.hn_lab.specs.declared.end.Stop.{Stop}
-use Rattle.hn_lab.specs.declared.end.Stop.TheVariants.{Refused, WireFailed, Cut}
-use Rattle.hn_lab.specs.Laws.{IsTold}
-use Rattle.hn_lab.specs.Process.{Unless, ThenProcess}
-use Rattle.hn_lab.specs.Stage.{Stage}
-use Rattle.hn_lab.specs.Syncing.{Syncs, Exchanges, SyncEnds}
 use Rattle.hn_lab.proofs.LawAlike.{Grows, grows_none, Agree, AreOne, FirstIsShort, SecondIsShort, IsSole, sole_at, sole_unless, sole_then}
 use Rattle.hn_lab.proofs.LawEvents.{same_stage}
 

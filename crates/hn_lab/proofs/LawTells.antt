@@ -1,14 +1,6 @@
 -- Lines come up in one way; where all is cut there, the text is a front.
-use Rattle.std.proofs.Common.{◌≡◌, ◌∙◌, ◌⊎◌, inl, inr, ℕ, List, [], ◌∷◌, ◌++◌, append_assoc, append-nil, Option, None, Some, refl, sym, ap, subst}
-use Rattle.std.proofs.lemmas.List.{map-append}
-use Rattle.hn_io.specs.declared.fault.IoFault.{IoFault}
-use Rattle.hn_lab.specs.declared.end.Stop.{Stop}
-use Rattle.hn_lab.specs.declared.end.Stop.TheVariants.{Refused, WireFailed, Cut}
-use Rattle.hn_lab.specs.Laws.{IsTold}
-use Rattle.hn_lab.specs.Process.{Unless}
-use Rattle.hn_lab.specs.Stage.{Stage, telling}
-use Rattle.hn_lab.specs.Tells.{TellsLines, TellsSome, IsOneLine, Reports}
-use Rattle.hn_lab.specs.Told.{Told, told}
+use Rattle.hn_base.proofs.Names.{◌≡◌, ◌∙◌, ◌⊎◌, inl, inr, ℕ, List, [], ◌∷◌, ◌++◌, append_assoc, Option, None, Some, refl, sym, ap, subst, map-append}
+use Rattle.hn_lab.proofs.Names.{append-nil, IoFault, Stop, Refused, WireFailed, Cut, IsTold, Unless, Stage, telling, TellsLines, TellsSome, IsOneLine, Reports, Told, told}
 use Rattle.hn_lab.proofs.LawAlike.{Grows, Agree, AreOne, FirstIsShort, SecondIsShort, IsSole, sole_unless, sole_then}
 
 -- of two fronts of a list, one is a front of the other

@@ -1,11 +1,7 @@
 -- What is done again and again, each time in one way, is done in one way.
-use Rattle.std.proofs.Common.{◌≡◌, ◌<◌, inl, inr, ℕ, zero, suc, Option, None, Some, refl, sym, subst, ◌∙◌, arith}
-use Rattle.std.proofs.lemmas.Bool.{cases_order}
+use Rattle.hn_base.proofs.Names.{◌≡◌, ◌<◌, inl, inr, ℕ, zero, suc, Option, None, Some, refl, sym, subst, ◌∙◌, arith, cases_order}
+use Rattle.hn_lab.proofs.Names.{Stop, IsTold, Process, Times, Until, Stage}
 use Rattle.std.proofs.Math.Nat.{eq-or-lt_of_le}
-use Rattle.hn_lab.specs.declared.end.Stop.{Stop}
-use Rattle.hn_lab.specs.Laws.{IsTold}
-use Rattle.hn_lab.specs.Process.{Process, Times, Until}
-use Rattle.hn_lab.specs.Stage.{Stage}
 use Rattle.hn_lab.proofs.LawAlike.{Grows, grows_none, grows_on, Agree, AreOne, FirstIsShort, SecondIsShort, turned, both_done, apart, IsSole}
 
 module _ (HasMore : Stage → Type 0) (round : Process) (sole : IsSole round) where

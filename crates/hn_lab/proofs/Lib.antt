@@ -1,3 +1,4 @@
+mod Names
 mod RunStops
 mod RunAnswers
 mod RunEvents

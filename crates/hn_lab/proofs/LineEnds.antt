@@ -1,19 +1,9 @@
 -- How a report ends, and what is done in the world.
-use Rattle.std.proofs.Common.{◌≡◌, ◌≢◌, ℕ, List, [], Option, None, Some, Result, Ok, Err, inl, refl, sym, subst}
-use Rattle.std.specs.Prelude.{◌↔◌, IfOk, IsTrue}
-use Rattle.hn_io.specs.declared.fault.IoFault.TheVariants.{NoMemory}
-use Rattle.hn_script.specs.declared.line.Line.{Line}
+use Rattle.hn_base.proofs.Names.{◌≡◌, ◌≢◌, ℕ, List, [], Option, None, Some, Result, Ok, Err, inl, refl, sym, subst, IfOk}
+use Rattle.hn_lab.proofs.Names.{◌↔◌, IsTrue, NoMemory, Line, WorldFault, Cut, Report, IsAnsweredLeaving, OtherEnds, event_of, report_of, Unless, unless_report, IsReport, ReportEnds, Stage, TellsSome}
 use Rattle.hn_script.specs.declared.line.Line.TheVariants as line
-use Rattle.hn_world.specs.declared.event.WorldFault.{WorldFault}
 use Rattle.hn_world.specs.declared.event.WorldFault.TheVariants as fault
-use Rattle.hn_lab.specs.declared.end.Stop.TheVariants.{Cut}
-use Rattle.hn_lab.specs.declared.report.Report.{Report}
-use Rattle.hn_lab.specs.Ended.{IsAnsweredLeaving}
-use Rattle.hn_lab.specs.Line.{OtherEnds, event_of, report_of, is_act}
-use Rattle.hn_lab.specs.Process.{Unless}
-use Rattle.hn_lab.specs.Report.{unless_report, IsReport, ReportEnds}
-use Rattle.hn_lab.specs.Stage.{Stage}
-use Rattle.hn_lab.specs.Tells.{TellsSome}
+use Rattle.hn_lab.specs.Line.{is_act}
 use Rattle.hn_lab.proofs.RunStops.{then_on}
 
 -- what is not refused

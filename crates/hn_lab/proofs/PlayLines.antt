@@ -1,19 +1,9 @@
 -- The lines of a script, one after another, and what is written of their text.
-use Rattle.std.proofs.Common.{◌≡◌, ◌∙◌, ℕ, List, [], ◌∷◌, ◌++◌, Option, None, Some, inl, inr, refl, sym, ap, subst, append-nil, append_assoc}
-use Rattle.std.specs.Io.KnownBytes.{Appends}
-use Rattle.hn_io.specs.declared.fault.IoFault.{IoFault}
-use Rattle.hn_io.specs.declared.fault.IoFault.TheVariants.{Failed, NoMemory}
-use Rattle.hn_script.specs.declared.line.Line.{Line}
+use Rattle.hn_base.proofs.Names.{◌≡◌, ◌∙◌, ℕ, List, [], ◌∷◌, ◌++◌, Option, None, Some, inl, inr, refl, sym, ap, subst, append_assoc, Appends}
+use Rattle.hn_lab.proofs.Names.{append-nil, IoFault, Failed, NoMemory, Line, Stop, Refused, WireFailed, Cut, LineEnds, AppendsPart, AppendsFront, IsCutText, LineSaid, LinesDone, StopsAt, IsPlay}
+use Rattle.hn_lab.proofs.Names.{IsCut, IsCutPlay, refused_line, Stage, telling, Told, told, bytes_of, Gets, EndsAt}
 use Rattle.hn_lab.specs.declared.end.End.TheVariants as end
-use Rattle.hn_lab.specs.declared.end.Stop.{Stop}
-use Rattle.hn_lab.specs.declared.end.Stop.TheVariants.{Refused, WireFailed, Cut}
-use Rattle.hn_lab.specs.Line.{LineEnds}
-use Rattle.hn_lab.specs.Output.{AppendsPart, AppendsFront, IsCutText}
-use Rattle.hn_lab.specs.Play.{LineSaid, LinesDone, StopsAt, IsPlay, IsCut, IsCutPlay}
-use Rattle.hn_lab.specs.Reports.{refused_line}
-use Rattle.hn_lab.specs.Stage.{Stage, telling}
-use Rattle.hn_lab.specs.Told.{Told, told, bytes_of}
-use Rattle.hn_lab.specs.Writing.{Gets, IsCutThere, EndsAt}
+use Rattle.hn_lab.specs.Writing.{IsCutThere}
 use Rattle.hn_lab.proofs.RunWrites.{bytes_more, bytes_told, gets_more, last_of}
 use Rattle.hn_lab.proofs.TextStreams.{Appends-more}
 

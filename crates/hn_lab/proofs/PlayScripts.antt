@@ -1,24 +1,13 @@
 -- What a play of a script comes to, and what holds of the whole source.
-use Rattle.std.proofs.Common.{◌≡◌, ◌≢◌, ◌<◌, ◌≤◌, ◌^◌, ℕ, zero, suc, List, [], ◌∷◌, Option, None, Some, Result, Ok, Err, length, inl, inr, subst, refl, sym, ap, ◌∙◌, append-nil, arith, lit<}
-use Rattle.std.specs.Prelude.{IfOk, Contains}
-use Rattle.std.specs.Io.KnownBytes.{Appends, Consumes}
-use Rattle.hn_base.specs.Input.{IsWhole}
+use Rattle.hn_base.proofs.Names.{◌≡◌, ◌≢◌, ◌<◌, ◌≤◌, ◌^◌, ℕ, zero, suc, List, [], ◌∷◌, Option, None, Some, Result, Ok, Err, length, inl, inr, subst, refl, sym, ap, ◌∙◌, arith, lit<, IfOk, Appends}
+use Rattle.hn_base.proofs.Names.{Consumes, IsWhole}
+use Rattle.hn_lab.proofs.Names.{append-nil, Contains, IoFault, Failed, NoMemory, Line, Script, Parts, End, Done, HasDonePlay, HasRefusal, IsWholePlay, IsBrokenPlay, Plays, IsLabOf, IsLabRun}
+use Rattle.hn_lab.proofs.Names.{StatusOfScript, AtMostOnePlay, AppendsFront, IsCutText, begun, IsPlay, IsCut, IsCutPlay, Stage, Route, bytes_of}
 use Rattle.hn_base.proofs.WholeSources.{of_source}
-use Rattle.hn_io.specs.declared.fault.IoFault.{IoFault}
-use Rattle.hn_io.specs.declared.fault.IoFault.TheVariants.{Failed, NoMemory}
 use Rattle.hn_script.specs.Script.{IsFirstFault}
 use Rattle.hn_script.specs.declared.fault.ScriptFault.{ScriptFault}
-use Rattle.hn_script.specs.declared.line.Line.{Line}
-use Rattle.hn_script.specs.declared.script.Script.{Script}
-use Rattle.hn_world.specs.declared.parts.Parts.{Parts}
-use Rattle.hn_lab.specs.declared.end.End.{End}
-use Rattle.hn_lab.specs.declared.end.End.TheVariants.{Done, Refused, WireFailed}
-use Rattle.hn_lab.specs.Lab.{play_status, HasDonePlay, HasRefusal, IsWholePlay, IsBrokenPlay, Plays, IsLabOf, IsLabRun, StatusOfScript}
-use Rattle.hn_lab.specs.Laws.{AtMostOnePlay}
-use Rattle.hn_lab.specs.Output.{AppendsFront, IsCutText}
-use Rattle.hn_lab.specs.Play.{begun, IsPlay, IsCut, IsCutPlay}
-use Rattle.hn_lab.specs.Stage.{Stage, Route}
-use Rattle.hn_lab.specs.Told.{bytes_of}
+use Rattle.hn_lab.specs.declared.end.End.TheVariants.{Refused, WireFailed}
+use Rattle.hn_lab.specs.Lab.{play_status}
 
 -- ---- the status of a play
 

@@ -1,13 +1,8 @@
 -- The text of the reports on prefixes.
-use Rattle.std.proofs.Common.{◌≡◌, ◌∙◌, ℕ, List, [], ◌∷◌, ◌++◌, ap, length}
-use Rattle.std.specs.Prelude.{map, codes}
-use Rattle.std.specs.Fmt.{decimal}
-use Rattle.hn_assign.specs.declared.assigned.Assigned.{Assigned}
-use Rattle.hn_base.specs.Name.{name_text}
-use Rattle.hn_base.specs.declared.name.Name.{Name}
+use Rattle.hn_base.proofs.Names.{◌≡◌, ◌∙◌, ℕ, List, [], ◌∷◌, ◌++◌, ap, length, decimal, name_text}
+use Rattle.hn_lab.proofs.Names.{map, codes, Assigned, Name, prefix_line, yes_no}
 use Rattle.hn_prefix.specs.PrefixText.{prefix_text_of}
-use Rattle.hn_lab.specs.PrefixReports.{published_text, prefix_line}
-use Rattle.hn_lab.specs.Reports.{yes_no}
+use Rattle.hn_lab.specs.PrefixReports.{published_text}
 
 -- the lines on these assignments, of which the first says how many they are
 abbrev pub assigned_head : Name → List Assigned → List ℕ

@@ -1,30 +1,14 @@
 -- Lines that look, or let time pass, keep a calm home calm.
-use Rattle.std.proofs.Common.{◌≡◌, ◌∙◌, ◌+◌, ◌<◌, ◌↔◌, ℕ, zero, suc, List, [], ◌∷◌, All, None, Option, Some, slice_get, inl, inr, refl, sym, ap, subst, arith}
-use Rattle.std.proofs.lemmas.List.Elements.{All-head, All-tail}
-use Rattle.std.proofs.lemmas.Option.{same_Some}
+use Rattle.hn_base.proofs.Names.{◌≡◌, ◌∙◌, ◌+◌, ◌<◌, ◌↔◌, ℕ, zero, suc, List, [], ◌∷◌, None, Option, Some, slice_get, inl, inr, refl, sym, ap, subst, arith, All-head, All-tail, same_Some}
+use Rattle.hn_lab.proofs.Names.{All, IsReached, Note, Line, Traced, WEvent, Member, Parts, IsReplayed, Report, Round, EndsAs, EndsBy, LineEnds, LinesDone, Times, ReportEnds, Mail, Stage}
 use Rattle.hn_assign.specs.Fixed.{AreAssignmentsUnchanged}
 use Rattle.hn_audit.specs.Heard.{IsCalmSince}
 use Rattle.hn_audit.specs.Lasting.{IsLastingHome}
-use Rattle.hn_audit.specs.Reached.{IsReached}
 use Rattle.hn_audit.specs.Staying.{IsMemberAt, KeepAssignments}
-use Rattle.hn_rules.specs.declared.done.Note.{Note}
-use Rattle.hn_script.specs.declared.line.Line.{Line}
 use Rattle.hn_script.specs.declared.line.Line.TheVariants as line
-use Rattle.hn_world.specs.declared.event.Traced.{Traced}
-use Rattle.hn_world.specs.declared.event.WEvent.{WEvent}
 use Rattle.hn_world.specs.declared.event.WEvent.TheVariants as event
-use Rattle.hn_world.specs.declared.member.Member.{Member}
-use Rattle.hn_world.specs.declared.parts.Parts.{Parts}
-use Rattle.hn_world.specs.Replay.{IsReplayed}
 use Rattle.hn_world.specs.Step.{Does}
-use Rattle.hn_lab.specs.declared.report.Report.{Report}
-use Rattle.hn_lab.specs.Events.{Round}
-use Rattle.hn_lab.specs.Line.{EndsAs, EndsBy, LineEnds}
-use Rattle.hn_lab.specs.Play.{LinesDone}
-use Rattle.hn_lab.specs.Process.{Times}
-use Rattle.hn_lab.specs.Report.{ReportEnds}
 use Rattle.hn_lab.specs.Resting.{IsLook, IsRestfulLine, RestfulLinesKeepCalm}
-use Rattle.hn_lab.specs.Stage.{Mail, Stage}
 use Rattle.hn_lab.proofs.RunsInTurns.{GoesRun, IsNamedAt, IsRunEvent, IsSameBut, RunLaws, from_front, lasting_run_keeps_calm, named_on, one_round, replayed_after}
 
 -- ---- each router is at its place

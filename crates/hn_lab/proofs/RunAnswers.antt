@@ -1,14 +1,8 @@
 -- How a process that a world answers ends within another.
-use Rattle.std.proofs.Common.{◌≡◌, ℕ, List, None, Some, Result, Ok, Err, sym, subst}
-use Rattle.std.specs.Prelude.{IsErrAnd}
-use Rattle.hn_io.specs.declared.fault.IoFault.TheVariants.{NoMemory}
-use Rattle.hn_world.specs.declared.event.WorldFault.{WorldFault}
+use Rattle.hn_base.proofs.Names.{◌≡◌, ℕ, List, None, Some, Result, Ok, Err, sym, subst, IsErrAnd}
+use Rattle.hn_lab.proofs.Names.{NoMemory, WorldFault, Stop, Refused, Cut, IsStopped, EndsWith, Leaves, EndsLeaving, IsAnsweredWith, IsAnsweredLeaving, stopping, Process, Stage}
 use Rattle.hn_world.specs.declared.event.WorldFault.TheVariants as fault
-use Rattle.hn_lab.specs.declared.end.Stop.{Stop}
-use Rattle.hn_lab.specs.declared.end.Stop.TheVariants.{Refused, Cut}
-use Rattle.hn_lab.specs.Ended.{IsStopped, EndsWith, Leaves, EndsLeaving, IsAnsweredWith, IsAnsweredLeaving, stop_of, stopping}
-use Rattle.hn_lab.specs.Process.{Process}
-use Rattle.hn_lab.specs.Stage.{Stage}
+use Rattle.hn_lab.specs.Ended.{stop_of}
 use Rattle.hn_lab.proofs.RunStops.{starved, stopped_last}
 
 -- where memory ended nothing is said

@@ -1,18 +1,7 @@
 -- How a copy that waits is treated.
-use Rattle.std.proofs.Common.{◌≡◌, ◌≢◌, ◌<◌, ◌%◌, ℕ, zero, suc, Bool, true, false, List, [], ◌∷◌, get_or, Option, Some, None, slice_get, nat_lt, sub-one, refl, subst, arith}
-use Rattle.std.specs.Prelude.{◌==◌, if◌then◌else◌}
-use Rattle.std.specs.Option.{option_map, option_map_or}
-use Rattle.std.proofs.Math.Dec.{eqb-suc-zero}
-use Rattle.std.proofs.lemmas.List.Quantifiers.{position-Some}
-use Rattle.std.proofs.lemmas.Option.{same_Some, slice_get-get_or}
-use Rattle.hn_world.specs.declared.copies.MailCopy.{MailCopy}
-use Rattle.hn_world.specs.declared.parts.Parts.{Parts}
-use Rattle.hn_world.specs.Receivers.{is_away}
-use Rattle.hn_world.specs.Refusal.{copy_at}
-use Rattle.hn_world.specs.Waiting.{first_waiting}
-use Rattle.hn_lab.specs.declared.end.Stop.{Stop}
-use Rattle.hn_lab.specs.Events.{CopyEnds, TreatmentEnds, drawn, is_lost}
-use Rattle.hn_lab.specs.Stage.{Stage}
+use Rattle.hn_base.proofs.Names.{◌≡◌, ◌≢◌, ◌<◌, ◌%◌, ℕ, zero, suc, Bool, true, false, List, [], ◌∷◌, get_or, Option, Some, None, slice_get, nat_lt, sub-one, refl, subst, arith, ◌==◌, if◌then◌else◌}
+use Rattle.hn_base.proofs.Names.{option_map, option_map_or, eqb-suc-zero, position-Some, same_Some, slice_get-get_or}
+use Rattle.hn_lab.proofs.Names.{MailCopy, Parts, is_away, copy_at, first_waiting, Stop, CopyEnds, TreatmentEnds, drawn, is_lost, Stage}
 use Rattle.hn_lab.proofs.RunEvents.{same_stage}
 
 -- with a loss above 0 the first word is drawn

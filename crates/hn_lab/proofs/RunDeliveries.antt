@@ -1,30 +1,14 @@
 -- Deliveries: by mail, and over a wire.
-use Rattle.std.proofs.Common.{◌≡◌, ◌∙◌, ◌≤◌, ◌-◌, ◌==◌, Bool, true, false, cond, ℕ, List, [], ◌∷◌, length, Option, None, Some, Result, Ok, Err, inl, inr, refl, sym, ap, subst}
-use Rattle.std.specs.Prelude.{◌||◌, is_none, nat_le, IsErrAnd}
-use Rattle.std.specs.Option.{option_map, option_and_then}
+use Rattle.hn_base.proofs.Names.{◌≡◌, ◌∙◌, ◌≤◌, ◌-◌, Bool, true, false, cond, ℕ, List, [], ◌∷◌, length, Option, None, Some, Result, Ok, Err, inl, inr, refl, sym, ap, subst, ◌||◌, is_none, nat_le}
+use Rattle.hn_base.proofs.Names.{IsErrAnd, option_map, option_and_then, same_Some, All-contains}
+use Rattle.hn_lab.proofs.Names.{◌==◌, contains_at, NoMemory, Note, CopyInfo, MailCopy, WEvent, WorldFault, Member, Parts, copy_at, refusal, Carried, Stop, Refused, WireFailed, Cut, Carries, Breaks}
+use Rattle.hn_lab.proofs.Names.{EventNotes, EventEnds, injection_for, Replaces, IsReplaced, ComesTo, ComesToSome, IsBroken, Conveys, DeliveryEnds, Delivers, IsStopped, EndsWith, IsAnswered}
+use Rattle.hn_lab.proofs.Names.{IsAnsweredWith, stopping, Stage, Route}
 use Rattle.std.specs.List.{slice_get}
-use Rattle.std.proofs.lemmas.Option.{same_Some}
-use Rattle.std.proofs.lemmas.List.Elements.{All-contains}
-use Rattle.hn_base.proofs.PartsAtPlaces.{contains_at}
-use Rattle.hn_io.specs.declared.fault.IoFault.TheVariants.{NoMemory}
-use Rattle.hn_rules.specs.declared.done.Note.{Note}
-use Rattle.hn_world.specs.declared.copies.CopyInfo.{CopyInfo}
-use Rattle.hn_world.specs.declared.copies.MailCopy.{MailCopy}
-use Rattle.hn_world.specs.declared.event.WEvent.{WEvent}
 use Rattle.hn_world.specs.declared.event.WEvent.TheVariants as event
-use Rattle.hn_world.specs.declared.event.WorldFault.{WorldFault}
-use Rattle.hn_world.specs.declared.member.Member.{Member}
-use Rattle.hn_world.specs.declared.parts.Parts.{Parts}
 use Rattle.hn_world.specs.Leaves.{info_of_copy}
 use Rattle.hn_world.specs.Within.{AreWithinLimits}
-use Rattle.hn_world.specs.Refusal.{acting, copy_at, names_nothing, is_stopped, lacks_the_endpoint, lacks_a_copy, lacks_room, is_full_of_mail, first_code, refusal}
-use Rattle.hn_lab.specs.declared.carrying.Carried.{Carried}
-use Rattle.hn_lab.specs.declared.end.Stop.{Stop}
-use Rattle.hn_lab.specs.declared.end.Stop.TheVariants.{Refused, WireFailed, Cut}
-use Rattle.hn_lab.specs.Carrying.{Carries, Breaks}
-use Rattle.hn_lab.specs.Delivery.{EventNotes, EventEnds, injection_for, Replaces, IsReplaced, ComesTo, ComesToSome, IsBroken, Conveys, DeliveryEnds, Delivers}
-use Rattle.hn_lab.specs.Ended.{IsStopped, EndsWith, IsAnswered, IsAnsweredWith, stopping}
-use Rattle.hn_lab.specs.Stage.{Stage, Route}
+use Rattle.hn_world.specs.Refusal.{acting, names_nothing, is_stopped, lacks_the_endpoint, lacks_a_copy, lacks_room, is_full_of_mail, first_code}
 use Rattle.hn_lab.proofs.RunAnswers.{answered_as, answer_on, ends_so}
 use Rattle.hn_lab.proofs.RunStops.{stopped_last, starved}
 

@@ -1,13 +1,7 @@
 -- What goes on for each element of a list, one after another.
-use Rattle.std.proofs.Common.{◌≡◌, ◌∙◌, ◌<◌, ◌≤◌, ◌+◌, ℕ, suc, List, [], ◌∷◌, ◌++◌, length, get_or, take, drop, Option, Some, None, inl, refl, sym, ap, subst}
-use Rattle.std.proofs.lemmas.List.{take_all, take_more, take-append-drop}
-use Rattle.std.proofs.Math.Seq.{drop-cons}
-use Rattle.hn_io.specs.declared.fault.IoFault.TheVariants.{NoMemory}
-use Rattle.hn_lab.specs.declared.end.Stop.{Stop}
-use Rattle.hn_lab.specs.declared.end.Stop.TheVariants.{Cut}
-use Rattle.hn_lab.specs.Process.{Process, EachProcess}
-use Rattle.hn_lab.specs.Stage.{Stage}
-use Rattle.hn_lab.specs.Writing.{EndsAt}
+use Rattle.hn_base.proofs.Names.{◌≡◌, ◌∙◌, ◌<◌, ◌≤◌, ◌+◌, ℕ, suc, List, [], ◌∷◌, ◌++◌, length, get_or, take, drop, Option, Some, None, inl, refl, sym, ap, subst, take_all, take_more, take-append-drop}
+use Rattle.hn_base.proofs.Names.{drop-cons}
+use Rattle.hn_lab.proofs.Names.{NoMemory, Stop, Cut, Process, EachProcess, Stage, EndsAt}
 use Rattle.hn_lab.proofs.RunStops.{then_on}
 use Rattle.hn_lab.proofs.RunWrites.{goes_on, still_done}
 

@@ -1,17 +1,7 @@
 -- Events of a play.
-use Rattle.std.proofs.Common.{◌≡◌, ◌∙◌, ◌+◌, ℕ, List, [], ◌∷◌, ◌++◌, length, Option, None, Some, Result, Err, refl, ap, length-append}
-use Rattle.hn_io.specs.declared.fault.IoFault.TheVariants.{NoMemory}
-use Rattle.hn_world.specs.declared.event.Traced.{Traced}
-use Rattle.hn_world.specs.declared.event.WEvent.{WEvent}
-use Rattle.hn_world.specs.declared.event.WorldFault.{WorldFault}
+use Rattle.hn_base.proofs.Names.{◌≡◌, ◌∙◌, ◌+◌, ℕ, List, [], ◌∷◌, ◌++◌, length, Option, None, Some, Result, Err, refl, ap, length-append}
+use Rattle.hn_lab.proofs.Names.{NoMemory, Traced, WEvent, WorldFault, refusal, EventNotes, EventEnds, Stop, Refused, Cut, Ended, IsAnswered, IsAnsweredWith, stopping, Process, Stage}
 use Rattle.hn_world.specs.declared.event.WorldFault.TheVariants as fault
-use Rattle.hn_world.specs.Refusal.{refusal}
-use Rattle.hn_lab.specs.Delivery.{EventNotes, EventEnds}
-use Rattle.hn_lab.specs.declared.end.Stop.{Stop}
-use Rattle.hn_lab.specs.declared.end.Stop.TheVariants.{Refused, Cut}
-use Rattle.hn_lab.specs.Ended.{Ended, IsAnswered, IsAnsweredWith, stopping}
-use Rattle.hn_lab.specs.Process.{Process}
-use Rattle.hn_lab.specs.Stage.{Stage}
 use Rattle.hn_lab.proofs.RunAnswers.{ends_so}
 
 -- stages with the same parts

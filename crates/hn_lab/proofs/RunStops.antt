@@ -1,14 +1,7 @@
 -- How a process ends within another.
-use Rattle.std.proofs.Common.{◌≡◌, ◌≢◌, ◌∙◌, ℕ, List, [], ◌∷◌, ◌++◌, Option, None, Some, Result, Ok, Err, inr, refl, sym, ap, subst, append-nil}
-use Rattle.std.specs.Prelude.{IsErrAnd}
-use Rattle.hn_base.proofs.Results.{same_error}
-use Rattle.hn_io.specs.declared.fault.IoFault.TheVariants.{Failed, NoMemory}
-use Rattle.hn_lab.specs.declared.end.Stop.{Stop}
-use Rattle.hn_lab.specs.declared.end.Stop.TheVariants.{Refused, WireFailed, Cut}
-use Rattle.hn_lab.specs.Ended.{IsStopped, EndsWith, Ended, Leaves, EndsLeaving}
-use Rattle.hn_lab.specs.Process.{Process, ThenProcess}
-use Rattle.hn_lab.specs.Stage.{Stage, telling}
-use Rattle.hn_lab.specs.Tells.{TellsLines}
+use Rattle.hn_base.proofs.Names.{◌≡◌, ◌≢◌, ◌∙◌, ℕ, List, [], ◌∷◌, ◌++◌, Option, None, Some, Result, Ok, Err, inr, refl, sym, ap, subst, IsErrAnd}
+use Rattle.hn_lab.proofs.Names.{append-nil, same_error, Failed, NoMemory, Stop, Refused, WireFailed, Cut, IsStopped, EndsWith, Ended, Leaves, EndsLeaving, Process, ThenProcess, Stage, telling}
+use Rattle.hn_lab.proofs.Names.{TellsLines}
 
 -- what goes on after the first
 pub then_on : (first second : Process) (stop : Option Stop) (before between after : Stage) → first None before between → second stop between after → ThenProcess first second stop before after

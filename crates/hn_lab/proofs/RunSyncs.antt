@@ -1,13 +1,7 @@
 -- An exchange in a play.
-use Rattle.std.proofs.Common.{◌≡◌, ◌∙◌, ℕ, Option, None, Some, Ok, Err, inl, inr, refl, ap}
-use Rattle.hn_base.specs.declared.name.Name.{Name}
-use Rattle.hn_sync.specs.Exchange.{unless_exchange}
-use Rattle.hn_world.specs.declared.event.WorldFault.{WorldFault}
+use Rattle.hn_base.proofs.Names.{◌≡◌, ◌∙◌, ℕ, Option, None, Some, Ok, Err, inl, inr, refl, ap}
+use Rattle.hn_lab.proofs.Names.{Name, unless_exchange, WorldFault, Refused, IsAnsweredLeaving, Stage, Syncs, SyncEnds}
 use Rattle.hn_world.specs.declared.event.WorldFault.TheVariants as fault
-use Rattle.hn_lab.specs.declared.end.Stop.TheVariants.{Refused}
-use Rattle.hn_lab.specs.Ended.{IsAnsweredLeaving}
-use Rattle.hn_lab.specs.Stage.{Stage}
-use Rattle.hn_lab.specs.Syncing.{Syncs, SyncEnds}
 
 -- what is not refused first, if a refusal is an error
 pub not_first : {A : Type 0} (unless : Option ℕ) (answer : A) → ((code : ℕ) → unless ≡ Some code → Ok answer ≡ Err (fault.Refused code)) → unless ≡ None

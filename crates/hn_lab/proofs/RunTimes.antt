@@ -1,9 +1,6 @@
 -- Rounds, again and again.
-use Rattle.std.proofs.Common.{ℕ, List, suc, Option, None, Some, inl, inr}
-use Rattle.hn_lab.specs.declared.end.Stop.{Stop}
-use Rattle.hn_lab.specs.Process.{Process, ThenProcess, Times}
-use Rattle.hn_lab.specs.Stage.{Stage}
-use Rattle.hn_lab.specs.Writing.{EndsAt}
+use Rattle.hn_base.proofs.Names.{ℕ, List, suc, Option, None, Some, inl, inr}
+use Rattle.hn_lab.proofs.Names.{Stop, Process, ThenProcess, Times, Stage, EndsAt}
 use Rattle.hn_lab.proofs.RunWrites.{goes_on}
 
 -- some number of rounds

@@ -1,35 +1,13 @@
 -- An endpoint that sends has its turn.
-use Rattle.std.proofs.Common.{◌≡◌, ◌∙◌, ◌+◌, ◌<◌, ℕ, suc, Bool, true, false, List, [], ◌∷◌, length, Option, None, Some, inl, inr, refl, sym, ap, subst, get_or, arith}
-use Rattle.std.specs.Prelude.{if◌then◌else◌, position}
-use Rattle.std.specs.Option.{option_map}
-use Rattle.std.proofs.lemmas.List.Quantifiers.{position-Some}
-use Rattle.std.proofs.lemmas.Option.{same_Some, slice_get-get_or}
-use Rattle.hn_advert.specs.Advert.{IsAdvert, advert_bytes}
-use Rattle.hn_advert.specs.declared.advert.Advert.{Advert}
-use Rattle.hn_base.specs.Name.{name_text}
-use Rattle.hn_base.specs.Words.{Took}
-use Rattle.hn_base.specs.declared.ids.EpId.{EpId}
-use Rattle.hn_base.specs.declared.name.Name.{Name}
-use Rattle.hn_io.specs.declared.fault.IoFault.TheVariants.{NoMemory}
-use Rattle.hn_radv.specs.Sender.{PlainSender, started_sender, solicited, is_due, draws, sent}
-use Rattle.hn_router.specs.Advertising.{IsAdvertAt}
-use Rattle.hn_rules.specs.declared.state.State.{State}
+use Rattle.hn_base.proofs.Names.{◌≡◌, ◌∙◌, ◌+◌, ◌<◌, ℕ, suc, Bool, true, false, List, [], ◌∷◌, length, Option, None, Some, inl, inr, refl, sym, ap, subst, get_or, arith, if◌then◌else◌, option_map}
+use Rattle.hn_base.proofs.Names.{position-Some, same_Some, slice_get-get_or, name_text, Took}
+use Rattle.hn_lab.proofs.Names.{position, IsAdvert, advert_bytes, Advert, EpId, Name, NoMemory, PlainSender, solicited, is_due, draws, sent, IsAdvertAt, State, WEvent, Member, member_named, Cut}
+use Rattle.hn_lab.proofs.Names.{Sending, Shape, Leaves, OtherEnds, Follows, Nothing, unless_elects, shape_of, sends_at, IsSenderAt, ra_line, IsAsked, IsDue, line_if, with_this, HasNoTurn, MayTurn}
+use Rattle.hn_lab.proofs.Names.{TurnEnds, starting, IsSolicited, Solicits, Stage, EndsAt}
+use Rattle.hn_radv.specs.Sender.{started_sender}
 use Rattle.hn_script.specs.declared.line.Line.TheVariants as line
-use Rattle.hn_world.specs.declared.event.WEvent.{WEvent}
 use Rattle.hn_world.specs.declared.event.WEvent.TheVariants as event
-use Rattle.hn_world.specs.declared.member.Member.{Member}
-use Rattle.hn_world.specs.Names.{member_named}
-use Rattle.hn_lab.specs.declared.end.Stop.TheVariants.{Cut}
-use Rattle.hn_lab.specs.declared.senders.Sending.{Sending}
-use Rattle.hn_lab.specs.declared.senders.Shape.{Shape}
-use Rattle.hn_lab.specs.Ended.{Leaves}
-use Rattle.hn_lab.specs.Line.{OtherEnds, Follows}
-use Rattle.hn_lab.specs.Process.{Nothing}
-use Rattle.hn_lab.specs.Report.{unless_elects}
-use Rattle.hn_lab.specs.Senders.{shape_of, sends_at, IsSenderAt, with_sender}
-use Rattle.hn_lab.specs.Sending.{ra_line, IsAsked, IsDue, line_if, with_this, HasNoTurn, MayTurn, TurnEnds, starting, IsSolicited, Solicits}
-use Rattle.hn_lab.specs.Stage.{Stage}
-use Rattle.hn_lab.specs.Writing.{EndsAt}
+use Rattle.hn_lab.specs.Senders.{with_sender}
 use Rattle.hn_lab.proofs.Choosings.{taken}
 use Rattle.hn_lab.proofs.RunStops.{then_on, nothing_left}
 use Rattle.hn_lab.proofs.RunWrites.{starves}

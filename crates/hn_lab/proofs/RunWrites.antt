@@ -1,22 +1,9 @@
 -- How a process ends within another, where lines come up and are written.
-use Rattle.std.proofs.Common.{◌≡◌, ◌≢◌, ◌∙◌, ℕ, List, [], ◌∷◌, ◌++◌, Option, None, Some, Result, Ok, Err, inl, refl, sym, ap, subst, append-nil, append_assoc}
-use Rattle.std.specs.Prelude.{IsErrAnd}
-use Rattle.std.specs.Io.KnownBytes.{Appends}
-use Rattle.std.proofs.lemmas.Grind.{flat_map-append}
-use Rattle.std.proofs.lemmas.List.{map-append}
-use Rattle.std.proofs.lemmas.Option.{none-some}
-use Rattle.hn_base.proofs.Results.{same_error}
-use Rattle.hn_io.specs.declared.fault.IoFault.{IoFault}
-use Rattle.hn_io.specs.declared.fault.IoFault.TheVariants.{Failed, NoMemory}
-use Rattle.hn_world.specs.declared.parts.Parts.{Parts}
-use Rattle.hn_lab.specs.declared.end.Stop.{Stop}
-use Rattle.hn_lab.specs.declared.end.Stop.TheVariants.{Refused, WireFailed, Cut}
-use Rattle.hn_lab.specs.Ended.{IsStopped, Ended, Leaves}
-use Rattle.hn_lab.specs.Output.{IsPart, AreCut, joined}
-use Rattle.hn_lab.specs.Process.{Process, ThenProcess}
-use Rattle.hn_lab.specs.Stage.{Stage, telling}
-use Rattle.hn_lab.specs.Told.{Told, told, bytes_of}
-use Rattle.hn_lab.specs.Writing.{Gets, EndsAt, EndsWriting}
+use Rattle.hn_base.proofs.Names.{◌≡◌, ◌≢◌, ◌∙◌, ℕ, List, [], ◌∷◌, ◌++◌, Option, None, Some, Result, Ok, Err, inl, refl, sym, ap, subst, append_assoc, IsErrAnd, Appends, flat_map-append, map-append}
+use Rattle.hn_base.proofs.Names.{none-some}
+use Rattle.hn_lab.proofs.Names.{append-nil, same_error, IoFault, Failed, NoMemory, Parts, Stop, Refused, WireFailed, Cut, IsStopped, Ended, Leaves, AreCut, joined, Process, ThenProcess, Stage}
+use Rattle.hn_lab.proofs.Names.{telling, Told, told, bytes_of, Gets, EndsAt, EndsWriting}
+use Rattle.hn_lab.specs.Output.{IsPart}
 use Rattle.hn_lab.proofs.RunStops.{then_on, stopped_within}
 use Rattle.hn_lab.proofs.TextStreams.{Appends-more}
 

@@ -1,48 +1,18 @@
 -- A line `run` without loss is a list of turns.
-use Rattle.std.proofs.Common.{◌≡◌, ◌≢◌, ◌∙◌, ◌⊎◌, ◌+◌, ◌-◌, ◌<◌, ◌≤◌, ◌%◌, ℕ, zero, suc, min, Bool, true, false, cond, List, [], ◌∷◌}
-use Rattle.std.proofs.Common.{◌++◌, filter, map, length, position, Option, Some, None, Contains, get_or, slice_get, slice_set, nat_lt, inl, inr, refl, sym, ap, subst, arith}
-use Rattle.std.specs.Prelude.{◌||◌, ◌==◌, if◌then◌else◌}
-use Rattle.std.specs.List.{position_or_len}
-use Rattle.std.specs.Str.{bytes_eq}
-use Rattle.std.proofs.lemmas.Bool.{cases_Bool, ltb-true}
-use Rattle.std.proofs.lemmas.List.Quantifiers.{position-Some}
-use Rattle.std.proofs.lemmas.List.Sums.{position_or_len_is}
-use Rattle.std.proofs.lemmas.Option.{same_Some, slice_get_within, get_or_from_slice_get}
-use Rattle.std.proofs.lemmas.Slice.Eq.{bytes_eq-Decides}
-use Rattle.hn_base.proofs.AscendingLists.{Contains-cases, Contains-map, nothing_in}
-use Rattle.hn_base.proofs.Elements.{in_filter}
-use Rattle.hn_base.proofs.PartsAtPlaces.{contains_at}
+use Rattle.hn_base.proofs.Names.{◌≡◌, ◌≢◌, ◌∙◌, ◌⊎◌, ◌+◌, ◌-◌, ◌<◌, ◌≤◌, ◌%◌, ℕ, zero, suc, min, Bool, true, false, cond, List, [], ◌∷◌, ◌++◌, filter, map, length, position, Option, Some, None}
+use Rattle.hn_base.proofs.Names.{Contains, get_or, slice_get, slice_set, nat_lt, inl, inr, refl, sym, ap, subst, arith, ◌||◌, ◌==◌, if◌then◌else◌, position_or_len, bytes_eq, cases_Bool, ltb-true}
+use Rattle.hn_base.proofs.Names.{position-Some, position_or_len_is, same_Some, slice_get_within, get_or_from_slice_get, bytes_eq-Decides, name_text}
+use Rattle.hn_lab.proofs.Names.{Contains-cases, nothing_in, in_filter, contains_at, EpId, Name, Version, Note, MailCopy, Traced, WEvent, Member, Parts, WorldHasItsTrace, WorldHasItsVersion, is_named}
+use Rattle.hn_lab.proofs.Names.{is_away, running_names, Goes, IsReplayed, Replays, Step, first_waiting, PlainSender, Sending, Shape, shape_of, Happens, CopyEnds, HasWaiting, Round, TreatmentEnds}
+use Rattle.hn_lab.proofs.Names.{EachProcess, Process, Times, IsTurn, MayTurn, TickEnds, TurnEnds, sending_now, with_this, Mail, Stage}
+use Rattle.hn_base.proofs.AscendingLists.{Contains-map}
 use Rattle.hn_base.proofs.PassingElements.{none_passes}
 use Rattle.hn_audit.specs.Heard.{GoesInTurns, GoesLossless, HasTicked, IsLosslessEvent, RestGoesInTurns, TicksAt, heard_after}
 use Rattle.hn_audit.specs.Lasting.{GoesInTimelyTurns, GoesTimely, IsTimelyEvent, LastingGoesInTurns, TicksAmong}
-use Rattle.hn_base.specs.Name.{name_text}
-use Rattle.hn_base.specs.declared.ids.EpId.{EpId}
-use Rattle.hn_base.specs.declared.name.Name.{Name}
-use Rattle.hn_base.specs.declared.version.Version.{Version}
-use Rattle.hn_rules.specs.declared.done.Note.{Note}
-use Rattle.hn_world.specs.declared.copies.MailCopy.{MailCopy}
-use Rattle.hn_world.specs.declared.event.Traced.{Traced}
-use Rattle.hn_world.specs.declared.event.WEvent.{WEvent}
 use Rattle.hn_world.specs.declared.event.WEvent.TheVariants as event
-use Rattle.hn_world.specs.declared.member.Member.{Member}
-use Rattle.hn_world.specs.declared.parts.Parts.{Parts}
-use Rattle.hn_world.specs.Laws.{WorldHasItsTrace, WorldHasItsVersion}
-use Rattle.hn_world.specs.Names.{is_named, router_place, NamesDiffer}
-use Rattle.hn_world.specs.Receivers.{is_away, running_names}
-use Rattle.hn_world.specs.Replay.{Goes, IsReplayed, Replays}
-use Rattle.hn_world.specs.Step.{Step}
-use Rattle.hn_world.specs.Waiting.{first_waiting}
-use Rattle.hn_radv.specs.Sender.{PlainSender}
-use Rattle.hn_lab.specs.declared.senders.Sending.{Sending}
-use Rattle.hn_lab.specs.declared.senders.Shape.{Shape}
-use Rattle.hn_lab.specs.Senders.{shape_of}
-use Rattle.hn_lab.specs.Delivery.{Happens}
-use Rattle.hn_lab.specs.Events.{CopyEnds, HasWaiting, Round, TreatmentEnds}
+use Rattle.hn_world.specs.Names.{router_place, NamesDiffer}
 use Rattle.hn_lab.specs.Laws.{MailDelivers}
-use Rattle.hn_lab.specs.Process.{EachProcess, Process, Times}
 use Rattle.hn_lab.specs.Resting.{IsOnTheWay, IsSteadyStep, IsSteadyWay, LastingRunKeepsCalm, RunKeepsCalm}
-use Rattle.hn_lab.specs.Sending.{IsTurn, MayTurn, TickEnds, TurnEnds, sending_now, with_this}
-use Rattle.hn_lab.specs.Stage.{Mail, Stage}
 use Rattle.hn_lab.proofs.SomeEvents.{goes_more, replays_step}
 
 -- the laws on which it rests

@@ -1,16 +1,13 @@
 -- Those that send, when one is put in place, added or taken out.
-use Rattle.std.proofs.Common.{◌≡◌, ◌≤◌, ℕ, Bool, true, false, List, [], length, filter, take, drop, get_or, refl, sym, ap, arith}
-use Rattle.std.specs.Prelude.{insert, nat_le, nat_lt, Decides}
-use Rattle.std.proofs.Math.Bool.{beq}
+use Rattle.hn_base.proofs.Names.{◌≡◌, ◌≤◌, ℕ, Bool, true, false, List, [], length, filter, take, drop, get_or, refl, sym, ap, arith, insert, nat_le, beq, IsPartitionedBy, IsPartitionPoint, eqb-true}
+use Rattle.hn_base.proofs.Names.{lt-ltb, le-ltb, leb-true, leb-false}
+use Rattle.hn_lab.proofs.Names.{Sending, Shape, AreInOrder, placed}
+use Rattle.std.specs.Prelude.{nat_lt, Decides}
 use Rattle.std.proofs.Math.Dec.{eqb}
-use Rattle.std.specs.List.Sorted.{IsPartitionedBy, IsPartitionPoint}
-use Rattle.std.proofs.lemmas.Bool.{eqb-true, lt-ltb, le-ltb, leb-true, leb-false}
 use Rattle.std.proofs.lemmas.List.Kept.{IsNonDecreasingBy-filter}
 use Rattle.std.proofs.lemmas.List.Sorted.{IsNonDecreasingBy-insert, IsPartitionedBy-leb}
 use Rattle.hn_base.proofs.FrontOfList.{filter-front, filter-back}
-use Rattle.hn_lab.specs.declared.senders.Sending.{Sending}
-use Rattle.hn_lab.specs.declared.senders.Shape.{Shape}
-use Rattle.hn_lab.specs.Senders.{sender_number, AreInOrder, placed}
+use Rattle.hn_lab.specs.Senders.{sender_number}
 
 -- shapes with equal fields are equal
 pub same_shape : (a b : Shape) → a.managed ≡ b.managed → a.other ≡ b.other → a.lifetime ≡ b.lifetime → a.prefixes ≡ b.prefixes → a ≡ b

@@ -1,29 +1,16 @@
 -- The set of a router in a world: who is in it.
-use Rattle.std.proofs.Common.{◌≡◌, ◌==◌, ◌&&◌, ◌≤◌, ◌<◌, ◌+◌, ℕ, true, false, Bool, IsTrue, All, Contains, List, length, take, get_or, Option, Some, refl, subst, sym, ◌∙◌}
-use Rattle.std.specs.Prelude.{◌↔◌}
-use Rattle.std.specs.List.{filter, list_any}
-use Rattle.std.specs.Option.{option_map_or}
-use Rattle.std.proofs.lemmas.Bool.{and_parts, eqb-true, eq-eqb}
-use Rattle.std.proofs.lemmas.List.{take_all}
-use Rattle.std.proofs.lemmas.List.Elements.{All-contains, All-more, Contains-get_or}
+use Rattle.hn_base.proofs.Names.{◌≡◌, ◌≤◌, ◌<◌, ◌+◌, ℕ, true, false, Bool, IsTrue, Contains, List, length, take, get_or, Option, Some, refl, subst, sym, ◌∙◌, list_any, option_map_or, and_parts}
+use Rattle.hn_base.proofs.Names.{eqb-true, eq-eqb, take_all, All-contains, All-more, Contains-get_or}
+use Rattle.hn_lab.proofs.Names.{◌==◌, All, ◌↔◌, all_of, found_passes, same_node, NodeId, ViewIsNetwork, EntriesAreAsKnown, State, IsRouter, Member, Parts, is_named, member_named, WorldIsSound}
+use Rattle.hn_lab.proofs.Names.{IsReplayed, IsSoundMember, SettledSeeEachOther, IsRunning, IsReached, is_in_set, IsSettled}
+use Rattle.std.proofs.Common.{◌&&◌}
+use Rattle.std.specs.List.{filter}
 use Rattle.hn_base.proofs.AscendingLists.{Contains-from_map}
-use Rattle.hn_base.proofs.Elements.{all_of, any_from, any_of, found_passes, from_filter_map}
-use Rattle.hn_base.proofs.Keys.{same_node}
-use Rattle.hn_base.specs.declared.ids.NodeId.{NodeId}
+use Rattle.hn_base.proofs.Elements.{any_from, any_of, from_filter_map}
 use Rattle.hn_data.specs.declared.view.Entry.{Entry}
-use Rattle.hn_rules.specs.Laws.{ViewIsNetwork, EntriesAreAsKnown}
 use Rattle.hn_rules.specs.Nodes.{entry_of, view_of}
-use Rattle.hn_rules.specs.declared.state.State.{State}
-use Rattle.hn_rules.specs.Router.{IsRouter}
-use Rattle.hn_world.specs.declared.member.Member.{Member}
-use Rattle.hn_world.specs.declared.parts.Parts.{Parts}
-use Rattle.hn_world.specs.Names.{is_named, member_named}
-use Rattle.hn_world.specs.Laws.{WorldIsSound}
-use Rattle.hn_world.specs.Replay.{IsReplayed, IsSoundMember}
-use Rattle.hn_audit.specs.Laws.{AreSeen, SettledSeeEachOther}
-use Rattle.hn_audit.specs.Reached.{IsRunning, IsReached, runs}
-use Rattle.hn_audit.specs.Set.{is_in_set}
-use Rattle.hn_audit.specs.Settled.{IsSettled}
+use Rattle.hn_audit.specs.Laws.{AreSeen}
+use Rattle.hn_audit.specs.Reached.{runs}
 
 -- a router reaches itself
 reaches_itself : ViewIsNetwork → EntriesAreAsKnown → (s : State) → IsRouter s → Contains s.reach s.id

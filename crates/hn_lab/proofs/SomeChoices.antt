@@ -1,45 +1,21 @@
 -- Choices are made, and exchanges go on to an end: it cannot be that they do not.
-use Rattle.std.proofs.Common.{◌≡◌, ◌+◌, ◌<◌, ◌^◌, ◌∙◌, ℕ, List, length, get_or, Option, None, Some, refl, sym, subst, arith}
-use Rattle.std.specs.Prelude.{All}
-use Rattle.std.proofs.lemmas.Option.{same_Some, slice_get-get_or}
-use Rattle.hn_addr.specs.Addresses.{IsChoice}
+use Rattle.hn_base.proofs.Names.{◌≡◌, ◌+◌, ◌<◌, ◌^◌, ◌∙◌, ℕ, List, length, get_or, Option, None, Some, refl, sym, subst, arith, All, same_Some, slice_get-get_or, Some!, name_text, Begins}
+use Rattle.hn_lab.proofs.Names.{IsChoice, Name, some_there, all_of, some_then, IsRouter, State, unless_exchange, Decides, IsOfBytesAt, member_named, unless_running, unless_runs, routed, FitsAt}
+use Rattle.hn_lab.proofs.Names.{IsWorldEventInRange, WEvent, Member, Parts, Chooses, MakesChoice, MayHappen, chosen_event, decided_event, ComesToAnEnd, GoesOn, IsFit, Stage, Exchanges, SyncEnds}
+use Rattle.hn_lab.proofs.Names.{TellsLines, WorldIsSound}
 use Rattle.hn_addr.specs.Laws.{ChoiceExists, ChosenAddressesFit, HasAChoice}
 use Rattle.hn_addr.specs.declared.choice.Choice.{Choice}
 use Rattle.hn_addr.specs.declared.choice.Choice.TheVariants as choice
-use Rattle.hn_base.specs.Exists.{Some! }
-use Rattle.hn_base.specs.Name.{name_text}
-use Rattle.hn_base.specs.Words.{Begins}
-use Rattle.hn_base.specs.declared.name.Name.{Name}
-use Rattle.hn_base.proofs.DecidingTests.{some_there}
-use Rattle.hn_base.proofs.Elements.{all_of}
-use Rattle.hn_base.proofs.SomeExists.{some_then}
-use Rattle.hn_rules.specs.Router.{IsRouter}
-use Rattle.hn_rules.specs.declared.state.State.{State}
-use Rattle.hn_sync.specs.Exchange.{ExchangeEnds, HasAnEnd, unless_exchange}
+use Rattle.hn_sync.specs.Exchange.{ExchangeEnds, HasAnEnd}
 use Rattle.hn_sync.specs.Laws.{ExchangeExists, ExchangeRepairs}
 use Rattle.hn_ula.specs.Laws.{AnnouncedIsPrefix, DecisionExists, HasADecision}
-use Rattle.hn_ula.specs.Ula.{Decides}
 use Rattle.hn_ula.specs.declared.decision.Ula.{Ula}
 use Rattle.hn_ula.specs.declared.decision.Ula.TheVariants as ula
-use Rattle.hn_world.specs.Existing.{IsOfBytesAt}
-use Rattle.hn_world.specs.Names.{member_named}
-use Rattle.hn_world.specs.Asked.{unless_running, unless_runs}
 use Rattle.hn_world.specs.Replay.{words_of_trace}
-use Rattle.hn_world.specs.Routed.{routed}
-use Rattle.hn_world.specs.Step.{FitsAt, IsWorldEventInRange}
-use Rattle.hn_world.specs.declared.event.WEvent.{WEvent}
-use Rattle.hn_world.specs.declared.member.Member.{Member}
-use Rattle.hn_world.specs.declared.parts.Parts.{Parts}
-use Rattle.hn_lab.specs.Choosing.{Chooses, MakesChoice, MayHappen, chosen_event, decided_event}
-use Rattle.hn_lab.specs.Existing.{ComesToAnEnd, GoesOn, IsFit}
-use Rattle.hn_lab.specs.Stage.{Stage}
-use Rattle.hn_lab.specs.Syncing.{Exchanges, SyncEnds}
-use Rattle.hn_lab.specs.Tells.{TellsLines}
 use Rattle.hn_lab.proofs.Choosings.{taken}
 use Rattle.hn_lab.proofs.SomeEnds.{ends_after, ends_nothing, ends_tells, ends_then}
 use Rattle.hn_lab.proofs.SomeEvents.{EventLaws, ends_event_whatever, goes_on, rest_of, weaker}
 use Rattle.hn_lab.proofs.SomeTurns.{router_named}
-use Rattle.hn_world.specs.Laws.{WorldIsSound}
 
 -- ---- events that fit
 

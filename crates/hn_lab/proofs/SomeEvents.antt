@@ -1,34 +1,14 @@
 -- Events end, and deliveries by mail.
-use Rattle.std.proofs.Common.{◌≡◌, ◌∙◌, ◌+◌, ◌<◌, ◌≤◌, ℕ, suc, Bool, true, false, cond, List, [], ◌∷◌, ◌++◌, length, length-append, slice_get}
-use Rattle.std.proofs.Common.{Option, None, Some, refl, sym, ap, subst, inl, inr, arith}
-use Rattle.std.specs.Prelude.{◌==◌, ◌||◌}
-use Rattle.std.proofs.lemmas.Option.{same_Some}
-use Rattle.hn_base.specs.Exists.{Some! }
-use Rattle.hn_base.specs.Words.{Begins, Took}
-use Rattle.hn_base.specs.declared.version.Version.{Version}
+use Rattle.hn_base.proofs.Names.{◌≡◌, ◌∙◌, ◌+◌, ◌<◌, ◌≤◌, ℕ, suc, Bool, true, false, cond, List, [], ◌∷◌, ◌++◌, length, length-append, slice_get, Option, None, Some, refl, sym, ap, subst, inl, inr}
+use Rattle.hn_base.proofs.Names.{arith, ◌==◌, ◌||◌, same_Some, Some!, Begins, Took}
+use Rattle.hn_lab.proofs.Names.{Version, some_then, Note, MailCopy, Traced, WEvent, Parts, IsOfBytesAt, WorldHasItsTrace, WorldHasItsVersion, is_away, refusal, Goes, IsReplayed, routed, FitsAt}
+use Rattle.hn_lab.proofs.Names.{IsWorldEventInRange, Step, first_waiting, Same, Carries, EventNotes, EventEnds, DeliveryEnds, CopyEnds, Flow, HasWaiting, TreatmentEnds, drawn, is_lost, ComesToAnEnd}
+use Rattle.hn_lab.proofs.Names.{GoesOn, IsFit, IsOn, stop_by, Process, Stage, Route, Mail}
 use Rattle.hn_base.proofs.FirstWords.{begins_both}
-use Rattle.hn_base.proofs.SomeExists.{some_then}
-use Rattle.hn_rules.specs.declared.done.Note.{Note}
-use Rattle.hn_world.specs.declared.copies.MailCopy.{MailCopy}
-use Rattle.hn_world.specs.declared.event.Traced.{Traced}
-use Rattle.hn_world.specs.declared.event.WEvent.{WEvent}
 use Rattle.hn_world.specs.declared.event.WEvent.TheVariants as event
-use Rattle.hn_world.specs.declared.parts.Parts.{Parts}
-use Rattle.hn_world.specs.Existing.{HasAStep, IsOfBytesAt, Outcome, ReplayedStepExists}
-use Rattle.hn_world.specs.Laws.{EachEventIsEntered, WorldHasItsTrace, WorldHasItsVersion}
-use Rattle.hn_world.specs.Receivers.{is_away}
-use Rattle.hn_world.specs.Refusal.{refusal}
-use Rattle.hn_world.specs.Replay.{empty_world, Goes, Replays, IsReplayed}
-use Rattle.hn_world.specs.Routed.{routed}
-use Rattle.hn_world.specs.Step.{FitsAt, IsWorldEventInRange, Step}
-use Rattle.hn_world.specs.Waiting.{first_waiting}
-use Rattle.hn_lab.specs.declared.carrying.Carried.TheVariants.{Same}
-use Rattle.hn_lab.specs.Carrying.{Carries}
-use Rattle.hn_lab.specs.Delivery.{EventNotes, EventEnds, DeliveryEnds}
-use Rattle.hn_lab.specs.Events.{CopyEnds, Flow, HasWaiting, TreatmentEnds, drawn, is_lost}
-use Rattle.hn_lab.specs.Existing.{ComesToAnEnd, GoesOn, IsFit, IsOn, stop_by}
-use Rattle.hn_lab.specs.Process.{Process}
-use Rattle.hn_lab.specs.Stage.{Stage, Route, Mail}
+use Rattle.hn_world.specs.Existing.{HasAStep, Outcome, ReplayedStepExists}
+use Rattle.hn_world.specs.Laws.{EachEventIsEntered}
+use Rattle.hn_world.specs.Replay.{empty_world, Replays}
 use Rattle.hn_lab.proofs.RunCopies.{some_copy}
 use Rattle.hn_lab.proofs.RunDeliveries.{delivered_copy}
 use Rattle.hn_lab.proofs.RunEvents.{one_more}

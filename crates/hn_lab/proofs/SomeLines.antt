@@ -1,42 +1,22 @@
 -- By mail each line ends, and lines have a play: it cannot be that they have none.
-use Rattle.std.proofs.Common.{◌≡◌, ◌-◌, ◌*◌, ◌/◌, ◌%◌, ◌<◌, ◌^◌, ℕ, List, [], ◌∷◌, Option, None, Some, refl, ap, inl, arith}
-use Rattle.std.specs.Prelude.{All, bit_or, bit_xor}
-use Rattle.std.proofs.lemmas.Nat.{div_below, or_of_32, pow_pos}
-use Rattle.hn_base.specs.Byte.{IsByte}
-use Rattle.hn_base.specs.Exists.{Some! }
-use Rattle.hn_base.specs.declared.ids.EpId.{EpId}
-use Rattle.hn_base.specs.declared.name.Name.{Name}
-use Rattle.hn_base.specs.declared.version.Version.{Version}
-use Rattle.hn_base.proofs.SomeExists.{some_then}
+use Rattle.hn_base.proofs.Names.{◌≡◌, ◌-◌, ◌*◌, ◌/◌, ◌%◌, ◌<◌, ◌^◌, ℕ, List, [], ◌∷◌, Option, None, Some, refl, ap, inl, arith, All, div_below, pow_pos, IsByte, Some! }
+use Rattle.hn_lab.proofs.Names.{EpId, Name, Version, some_then, Note, IsLimited, Line, WEvent, End, Sending, DeliveryEnds, EventEnds, EventNotes, ComesToAnEnd, GoesOn, IsFit, IsOn, ScriptHasAPlay}
+use Rattle.hn_lab.proofs.Names.{stop_by, IsUnbroken, EndsAs, EndsBy, Follows, LineEnds, Noted, OtherEnds, Sets, event_of, injection, receiver, report_of, seeded, begun, IsPlay, Process, ThenProcess}
+use Rattle.hn_lab.proofs.Names.{IsReport, unless_elects, unless_report, refused_line, Report, Solicits, ending, ending_all, starting, Stage, Mail, telling, TellsLines, note_lines, ula_line}
+use Rattle.std.specs.Prelude.{bit_or, bit_xor}
+use Rattle.std.proofs.lemmas.Nat.{or_of_32}
 use Rattle.rand_pcg.specs.Lcg.{Lcg, state_after}
 use Rattle.rand_pcg.specs.Pcg.{multiplier_64}
 use Rattle.hn_io.specs.Pcg.{pcg_word}
-use Rattle.hn_rules.specs.declared.done.Note.{Note}
 use Rattle.hn_rules.specs.Given.{IsPrivateLength}
-use Rattle.hn_script.specs.Laws.{HasFittingValues, IsLimited, IsPrivateLink, ScriptIsLimited, ValuesFit}
+use Rattle.hn_script.specs.Laws.{HasFittingValues, IsPrivateLink, ScriptIsLimited, ValuesFit}
 use Rattle.hn_script.specs.declared.line.How.{How}
 use Rattle.hn_script.specs.declared.line.How.TheVariants.{Uni, Multi, Far}
-use Rattle.hn_script.specs.declared.line.Line.{Line}
 use Rattle.hn_script.specs.declared.line.Line.TheVariants as line
 use Rattle.hn_world.specs.Replay.{Replays}
-use Rattle.hn_world.specs.declared.event.WEvent.{WEvent}
 use Rattle.hn_world.specs.declared.event.WEvent.TheVariants as event
-use Rattle.hn_lab.specs.declared.end.End.{End}
 use Rattle.hn_lab.specs.declared.end.End.TheVariants as end
-use Rattle.hn_lab.specs.declared.senders.Sending.{Sending}
-use Rattle.hn_lab.specs.Delivery.{DeliveryEnds, EventEnds, EventNotes}
-use Rattle.hn_lab.specs.Existing.{ComesToAnEnd, GoesOn, HasAPlay, IsFit, IsOn, PlayExists, ScriptHasAPlay, stop_by}
-use Rattle.hn_lab.specs.Laws.{IsUnbroken}
-use Rattle.hn_lab.specs.Line.{EndsAs, EndsBy, Follows, LineEnds, Noted, OtherEnds, Sets, event_of, injection, receiver, report_of, seeded}
-use Rattle.hn_lab.specs.Play.{begun, IsPlay}
-use Rattle.hn_lab.specs.Process.{Process, ThenProcess}
-use Rattle.hn_lab.specs.Report.{IsReport, unless_elects, unless_report}
-use Rattle.hn_lab.specs.Reports.{refused_line}
-use Rattle.hn_lab.specs.declared.report.Report.{Report}
-use Rattle.hn_lab.specs.Sending.{Solicits, ending, ending_all, starting}
-use Rattle.hn_lab.specs.Stage.{Stage, Mail, telling}
-use Rattle.hn_lab.specs.Tells.{TellsLines, note_lines}
-use Rattle.hn_lab.specs.UlaReports.{ula_line}
+use Rattle.hn_lab.specs.Existing.{HasAPlay, PlayExists}
 use Rattle.hn_lab.proofs.SomeChoices.{ChoiceLaws, EventFits, ends_address, ends_sync, ends_ula}
 use Rattle.hn_lab.proofs.SomeEnds.{ends_after, ends_nothing, ends_report, ends_then, fit_told}
 use Rattle.hn_lab.proofs.SomeEvents.{EndsNoted, ends_delivery, ends_event, ends_event_whatever, ends_flow, weaker}

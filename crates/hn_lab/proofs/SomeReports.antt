@@ -1,45 +1,20 @@
 -- What reports tell: it cannot be that there is nothing to tell.
-use Rattle.std.proofs.Common.{◌≡◌, ◌+◌, ℕ, Bool, true, false, not, IsTrue, List, [], ◌∷◌, filter, Option, None, Some, refl, inl, inr}
-use Rattle.std.specs.Prelude.{◌↔◌, codes}
-use Rattle.std.specs.Option.{option_or}
-use Rattle.hn_addr.specs.Laws.{StillAddressesStay}
-use Rattle.hn_advert.specs.Advert.{advert_bytes}
-use Rattle.hn_audit.specs.Laws.{SettledAndQuietIsSound, SettledSeeEachOther}
-use Rattle.hn_audit.specs.Quiet.{IsQuiet}
-use Rattle.hn_audit.specs.Reached.{IsRunning}
-use Rattle.hn_audit.specs.Set.{is_in_set}
-use Rattle.hn_audit.specs.Settled.{IsSettled}
-use Rattle.hn_base.specs.Exists.{Some! }
-use Rattle.hn_base.specs.Name.{name_text}
-use Rattle.hn_base.specs.declared.ids.EpId.{EpId}
-use Rattle.hn_base.specs.declared.letter.Letter.{Letter}
-use Rattle.hn_base.specs.declared.name.Name.{Name}
-use Rattle.hn_base.proofs.DecidingTests.{neither_given, some_there}
-use Rattle.hn_base.proofs.Elements.{found_passes}
-use Rattle.hn_base.proofs.SomeExists.{some_by, some_is, some_then}
+use Rattle.hn_base.proofs.Names.{◌≡◌, ◌+◌, ℕ, Bool, true, false, not, IsTrue, List, [], ◌∷◌, filter, Option, None, Some, refl, inl, inr, option_or, Some!, name_text}
+use Rattle.hn_lab.proofs.Names.{◌↔◌, codes, StillAddressesStay, advert_bytes, SettledSeeEachOther, IsQuiet, IsRunning, is_in_set, IsSettled, EpId, Letter, Name, neither_given, some_there}
+use Rattle.hn_lab.proofs.Names.{found_passes, some_by, some_then, AdvertExists, EntriesAreAsKnown, OwnAddressesAreSaid, OwnVersionIsSaid, ViewIsNetwork, IsRouter, seen_by, WorldIsSound, is_named}
+use Rattle.hn_lab.proofs.Names.{member_named, unless_both_run, unless_known, unless_running, unless_runs, IsReplayed, Member, Parts, AreAddressesStill, IsAddressed, IsAddressedLine, IsAdvertLine}
+use Rattle.hn_lab.proofs.Names.{advert_line, IsAudited, IsAuditLine, audit_line, AreUsedLines, IsElectLine, elect_line, used_lines, Compares, IsAbout, IsReport, Tells, mail_report, unless_report}
+use Rattle.hn_lab.proofs.Names.{compare_line, hash_line, show_line, IsOneLine, ArePrefixesStill, HasGenerated, HaveGenerated, IsUlasLine, IsUlasTold, About, Report}
+use Rattle.hn_audit.specs.Laws.{SettledAndQuietIsSound}
+use Rattle.hn_base.proofs.SomeExists.{some_is}
 use Rattle.hn_deleg.specs.Laws.{UsableExists}
-use Rattle.hn_router.specs.Laws.{AdvertExists, ElectedExists}
-use Rattle.hn_rules.specs.Laws.{EntriesAreAsKnown, OwnAddressesAreSaid, OwnVersionIsSaid, ViewIsNetwork}
-use Rattle.hn_rules.specs.Router.{IsRouter}
-use Rattle.hn_rules.specs.Seen.{seen_by}
+use Rattle.hn_router.specs.Laws.{ElectedExists}
 use Rattle.hn_world.specs.Existing.{RoutersAgreeSomehow}
-use Rattle.hn_world.specs.Laws.{WorldIsSound}
-use Rattle.hn_world.specs.Names.{is_named, member_named}
-use Rattle.hn_world.specs.Asked.{code_if, of_router, unless_both_run, unless_known, unless_running, unless_runs}
-use Rattle.hn_world.specs.Replay.{IsReplayed}
-use Rattle.hn_world.specs.declared.member.Member.{Member}
-use Rattle.hn_world.specs.declared.parts.Parts.{Parts}
-use Rattle.hn_lab.specs.AddressReports.{addresses_lines, AreAddressesStill, IsAddressed, IsAddressedLine}
-use Rattle.hn_lab.specs.AdvertReports.{IsAdvertLine, advert_line}
-use Rattle.hn_lab.specs.AuditReports.{IsAudited, IsAuditLine, audit_line}
-use Rattle.hn_lab.specs.PrefixReports.{AreUsedLines, IsElectLine, elect_line, prefixes_lines, used_lines}
-use Rattle.hn_lab.specs.Report.{Compares, IsAbout, IsReport, Tells, mail_report, unless_about, unless_report}
-use Rattle.hn_lab.specs.Reports.{compare_line, hash_line, show_line}
-use Rattle.hn_lab.specs.Tells.{IsOneLine}
-use Rattle.hn_lab.specs.UlaReports.{ArePrefixesStill, HasGenerated, HaveGenerated, IsUlasLine, IsUlasTold}
-use Rattle.hn_lab.specs.declared.report.About.{About}
+use Rattle.hn_world.specs.Asked.{code_if, of_router}
+use Rattle.hn_lab.specs.AddressReports.{addresses_lines}
+use Rattle.hn_lab.specs.PrefixReports.{prefixes_lines}
+use Rattle.hn_lab.specs.Report.{unless_about}
 use Rattle.hn_lab.specs.declared.report.About.TheVariants as about
-use Rattle.hn_lab.specs.declared.report.Report.{Report}
 use Rattle.hn_lab.specs.declared.report.Report.TheVariants as report
 use Rattle.hn_lab.proofs.AddressSets.{are_alone}
 use Rattle.hn_lab.proofs.Sets.{IsKnown}

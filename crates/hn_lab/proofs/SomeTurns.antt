@@ -1,37 +1,12 @@
 -- Router Advertisements are sent, routers tick, and time passes: it cannot be that this does not end.
-use Rattle.std.proofs.Common.{◌≡◌, ◌+◌, ◌<◌, ◌≤◌, ◌^◌, ℕ, suc, min, Bool, true, false, cond, List, [], ◌∷◌, get_or, Option, None, Some, refl, inl, inr, arith}
-use Rattle.std.specs.Prelude.{position}
-use Rattle.std.proofs.lemmas.Bool.{cases_lt}
-use Rattle.std.proofs.lemmas.List.Elements.{All-contains}
-use Rattle.std.proofs.lemmas.List.Quantifiers.{position-Some}
-use Rattle.std.proofs.lemmas.Option.{slice_get-get_or}
-use Rattle.hn_advert.specs.Advert.{IsAdvert, IsInRange, advert_bytes}
-use Rattle.hn_advert.specs.declared.advert.Advert.{Advert}
-use Rattle.hn_base.specs.Exists.{Some! }
-use Rattle.hn_base.specs.Name.{name_text}
-use Rattle.hn_base.specs.declared.ids.EpId.{EpId}
-use Rattle.hn_base.specs.declared.name.Name.{Name}
-use Rattle.hn_base.proofs.Elements.{found_passes}
-use Rattle.hn_base.proofs.SomeExists.{some_by, some_then}
-use Rattle.hn_radv.specs.Sender.{PlainSender, solicited, is_due, draws, sent}
-use Rattle.hn_router.specs.Laws.{AdvertExists}
-use Rattle.hn_rules.specs.Router.{IsRouter}
-use Rattle.hn_world.specs.Laws.{WorldIsSound}
-use Rattle.hn_world.specs.Names.{is_named, member_named}
-use Rattle.hn_world.specs.Receivers.{running_names}
-use Rattle.hn_world.specs.Replay.{IsReplayed, IsSoundMember}
+use Rattle.hn_base.proofs.Names.{◌≡◌, ◌+◌, ◌<◌, ◌≤◌, ◌^◌, ℕ, suc, min, Bool, true, false, cond, List, [], ◌∷◌, get_or, Option, None, Some, refl, inl, inr, arith, cases_lt, All-contains, position-Some}
+use Rattle.hn_base.proofs.Names.{slice_get-get_or, Some!, name_text}
+use Rattle.hn_lab.proofs.Names.{position, IsAdvert, advert_bytes, Advert, EpId, Name, found_passes, some_by, some_then, PlainSender, solicited, is_due, draws, sent, AdvertExists, IsRouter}
+use Rattle.hn_lab.proofs.Names.{WorldIsSound, is_named, member_named, running_names, IsReplayed, IsSoundMember, Member, Parts, Sending, Shape, EventEnds, Flow, Passes, Round, Runs, Ticks}
+use Rattle.hn_lab.proofs.Names.{ComesToAnEnd, IsFit, IsOn, Nothing, ThenProcess, shape_of, sends_at, sender_endpoints, IsSenderAt, ra_line, IsAsked, line_if, sending_now, with_this, drawing, MayTurn}
+use Rattle.hn_lab.proofs.Names.{TurnEnds, Turns, TickEnds, Solicits, Stage}
+use Rattle.hn_advert.specs.Advert.{IsInRange}
 use Rattle.hn_world.specs.declared.event.WEvent.TheVariants as event
-use Rattle.hn_world.specs.declared.member.Member.{Member}
-use Rattle.hn_world.specs.declared.parts.Parts.{Parts}
-use Rattle.hn_lab.specs.declared.senders.Sending.{Sending}
-use Rattle.hn_lab.specs.declared.senders.Shape.{Shape}
-use Rattle.hn_lab.specs.Delivery.{EventEnds}
-use Rattle.hn_lab.specs.Events.{Flow, Passes, Round, Runs, Ticks}
-use Rattle.hn_lab.specs.Existing.{ComesToAnEnd, IsFit, IsOn}
-use Rattle.hn_lab.specs.Process.{Nothing, ThenProcess}
-use Rattle.hn_lab.specs.Senders.{shape_of, sends_at, sender_endpoints, IsSenderAt}
-use Rattle.hn_lab.specs.Sending.{ra_line, IsAsked, line_if, sending_now, with_this, drawing, MayTurn, TurnEnds, Turns, TickEnds, Solicits}
-use Rattle.hn_lab.specs.Stage.{Stage}
 use Rattle.hn_lab.proofs.SomeEnds.{ends_each, ends_nothing, ends_then, ends_until, fit_told}
 use Rattle.hn_lab.proofs.SomeEvents.{EventLaws, ends_event_whatever, ends_flow, weaker}
 

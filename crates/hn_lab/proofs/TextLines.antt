@@ -1,10 +1,6 @@
 -- Lines of text, one after another.
-use Rattle.std.proofs.Common.{◌≡◌, ◌∙◌, ◌+◌, ◌<◌, ◌++◌, ℕ, List, ◌∷◌, Option, sym, ap, length, take, drop, get_or, add-one}
-use Rattle.std.specs.Prelude.{map}
-use Rattle.std.specs.Io.KnownBytes.{Appends}
-use Rattle.std.proofs.Math.Seq.{drop-cons}
-use Rattle.std.proofs.lemmas.List.{take-append-drop, map-append}
-use Rattle.hn_lab.specs.Output.{AppendsPart, AreCut, joined}
+use Rattle.hn_base.proofs.Names.{◌≡◌, ◌∙◌, ◌+◌, ◌<◌, ◌++◌, ℕ, List, ◌∷◌, Option, sym, ap, length, take, drop, get_or, add-one, Appends, drop-cons, take-append-drop, map-append}
+use Rattle.hn_lab.proofs.Names.{map, AppendsPart, AreCut, joined}
 use Rattle.hn_lab.proofs.TextStreams.{Appends-more}
 
 -- the lines before one, that one, and those after it

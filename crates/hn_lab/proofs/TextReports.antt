@@ -1,27 +1,13 @@
 -- What a report says of the routers of its names.
-use Rattle.std.proofs.Common.{◌≡◌, ◌∙◌, ℕ, Bool, List, [], ◌∷◌, ◌++◌, Option, None, Some, Result, refl, ap, sym, subst, length}
-use Rattle.std.specs.Prelude.{◌↔◌, IfOk, IsTrue, Decides, codes}
-use Rattle.std.specs.Option.{option_map, option_or}
-use Rattle.std.specs.Fmt.{decimal}
-use Rattle.hn_base.specs.HexText.{id_text}
-use Rattle.hn_base.specs.Name.{name_text}
-use Rattle.hn_base.specs.declared.name.Name.{Name}
-use Rattle.hn_base.specs.declared.ids.NodeId.{NodeId}
+use Rattle.hn_base.proofs.Names.{◌≡◌, ◌∙◌, ℕ, Bool, List, [], ◌∷◌, ◌++◌, Option, None, Some, Result, refl, ap, sym, subst, length, IfOk, option_map, option_or, decimal, id_text, name_text}
+use Rattle.hn_base.proofs.Names.{IfOk-weaker}
+use Rattle.hn_lab.proofs.Names.{◌↔◌, IsTrue, codes, Name, NodeId, leaves_of, member_named, Member, Parts, unless_known, unless_runs, unless_both_run, About, Compares, IsAbout, IsOneLine, yes_no}
+use Rattle.hn_lab.proofs.Names.{show_line, compare_line, neither_given, some_there}
+use Rattle.std.specs.Prelude.{Decides}
 use Rattle.hn_hash.specs.declared.agreement.Agreement.{Agreement}
-use Rattle.hn_rules.specs.Nodes.{leaves_of}
 use Rattle.hn_router.specs.declared.router.Router.{Router}
 use Rattle.hn_world.specs.Leaves.{Agrees}
 use Rattle.hn_store.specs.declared.table.Table.{Table}
-use Rattle.hn_world.specs.Names.{member_named}
-use Rattle.hn_world.specs.declared.member.Member.{Member}
-use Rattle.hn_world.specs.declared.parts.Parts.{Parts}
-use Rattle.hn_world.specs.Asked.{unless_known, unless_runs, unless_both_run}
-use Rattle.hn_lab.specs.declared.report.About.{About}
-use Rattle.hn_lab.specs.Report.{Compares, IsAbout}
-use Rattle.hn_lab.specs.Tells.{IsOneLine}
-use Rattle.hn_lab.specs.Reports.{yes_no, show_line, compare_line}
-use Rattle.std.proofs.lemmas.Result.{IfOk-weaker}
-use Rattle.hn_base.proofs.DecidingTests.{neither_given, some_there}
 
 -- the router of a name
 pub member_of : (found : Option Member) (router : Router) → Some router ≡ option_map (λ m. m.router) found → (m : Member) × (found ≡ Some m) × (router ≡ m.router)

@@ -1,6 +1,5 @@
 -- One read or write after another.
-use Rattle.std.proofs.Common.{◌∙◌, ℕ, List, ◌++◌, Option, None, Some, sym, ap, append_assoc}
-use Rattle.std.specs.Io.KnownBytes.{Appends, Consumes}
+use Rattle.hn_base.proofs.Names.{◌∙◌, ℕ, List, ◌++◌, Option, None, Some, sym, ap, append_assoc, Appends, Consumes}
 
 pub Consumes-more : (a b c : Option (List ℕ)) (xs ys : List ℕ) → Consumes a b xs → Consumes b c ys → Consumes a c (xs ++ ys)
 Consumes-more None b c xs ys p q = tt

@@ -1,22 +1,12 @@
 -- By mail a script has one transcript, and what is written is a front of it.
-use Rattle.std.proofs.Common.{◌≡◌, ◌≢◌, ◌∙◌, ℕ, List, [], ◌∷◌, ◌++◌, append-nil, append_assoc, Option, Some, refl, sym, ap, subst, inl, inr, arith}
-use Rattle.std.proofs.lemmas.Grind.{flat_map-append}
-use Rattle.hn_base.specs.Exists.{Some! }
-use Rattle.hn_base.proofs.SomeExists.{some_then}
-use Rattle.hn_io.specs.declared.fault.IoFault.TheVariants.{Failed, NoMemory}
+use Rattle.hn_base.proofs.Names.{◌≡◌, ◌≢◌, ◌∙◌, ℕ, List, [], ◌∷◌, ◌++◌, append_assoc, Option, Some, refl, sym, ap, subst, inl, inr, arith, flat_map-append, Some! }
+use Rattle.hn_lab.proofs.Names.{append-nil, some_then, Failed, NoMemory, Script, Parts, End, Done, ScriptHasAPlay, IsBrokenPlay, IsWholePlay, Plays, AtMostOnePlay, CutTextsAreFronts, IsUnbroken}
+use Rattle.hn_lab.proofs.Names.{IsCutText, begun, IsPlay, Route, Stage, Mail, Told, bytes_of}
 use Rattle.hn_script.specs.Laws.{AtMostOneScript, FaultExcludesScript}
 use Rattle.hn_script.specs.Script.{IsScript}
-use Rattle.hn_script.specs.declared.script.Script.{Script}
-use Rattle.hn_world.specs.declared.parts.Parts.{Parts}
-use Rattle.hn_lab.specs.declared.end.End.{End}
-use Rattle.hn_lab.specs.declared.end.End.TheVariants.{Done, Refused, WireFailed}
-use Rattle.hn_lab.specs.Existing.{ScriptHasAPlay}
-use Rattle.hn_lab.specs.Lab.{IsBrokenPlay, IsStarvedPlay, IsWholePlay, Plays, status_of}
-use Rattle.hn_lab.specs.Laws.{AtMostOnePlay, CutTextsAreFronts, IsUnbroken}
-use Rattle.hn_lab.specs.Output.{IsCutText, IsFrontOf}
-use Rattle.hn_lab.specs.Play.{begun, IsPlay}
-use Rattle.hn_lab.specs.Stage.{Route, Stage, Mail}
-use Rattle.hn_lab.specs.Told.{Told, bytes_of}
+use Rattle.hn_lab.specs.declared.end.End.TheVariants.{Refused, WireFailed}
+use Rattle.hn_lab.specs.Lab.{IsStarvedPlay, status_of}
+use Rattle.hn_lab.specs.Output.{IsFrontOf}
 use Rattle.hn_lab.specs.Transcripts.{DoneOrRefused, IsOfTranscript, IsTranscript, IsWrittenOf, LabIsOfTranscript, PlayIsOfTranscript, Transcript, TranscriptExists, TranscriptIsUnique}
 use Rattle.hn_lab.specs.Transcripts.{WrittenIsOfTranscript}
 

@@ -1,14 +1,7 @@
 -- How many routers of a list have a generated prefix.
-use Rattle.std.proofs.Common.{◌≡◌, ◌∙◌, ◌⊎◌, ◌<◌, ◌≤◌, ◌+◌, ℕ, Bool, true, false, cond, IsTrue, List, [], ◌∷◌, ◌++◌, take, length, get_or, Contains, filter, refl, sym, ap, subst, inl, inr, arith}
-use Rattle.std.specs.Prelude.{◌↔◌}
-use Rattle.std.specs.List.{count_by}
-use Rattle.std.proofs.lemmas.Bool.{false≢true}
-use Rattle.std.proofs.lemmas.List.{append-nil}
-use Rattle.std.proofs.lemmas.List.Elements.{filter_more}
-use Rattle.std.proofs.lemmas.List.Sums.{sum_by-cons}
-use Rattle.hn_base.proofs.AscendingLists.{nothing_in, Contains-head, Contains-tail, Contains-cases}
-use Rattle.hn_world.specs.declared.member.Member.{Member}
-use Rattle.hn_lab.specs.UlaReports.{HasGenerated, HaveGenerated}
+use Rattle.hn_base.proofs.Names.{◌≡◌, ◌∙◌, ◌⊎◌, ◌<◌, ◌≤◌, ◌+◌, ℕ, Bool, true, false, cond, IsTrue, List, [], ◌∷◌, ◌++◌, take, length, get_or, Contains, filter, refl, sym, ap, subst, inl, inr, arith}
+use Rattle.hn_base.proofs.Names.{count_by, false≢true, append-nil, filter_more, sum_by-cons}
+use Rattle.hn_lab.proofs.Names.{◌↔◌, nothing_in, Contains-head, Contains-tail, Contains-cases, Member, HasGenerated, HaveGenerated}
 
 -- ---- one router more
 

@@ -1,27 +1,14 @@
 -- In the set of a settled router whose routers are still one router at most has a generated prefix.
-use Rattle.std.proofs.Common.{◌≡◌, ◌∙◌, ◌==◌, ◌<◌, ◌≤◌, ℕ, Bool, false, IsTrue, List, [], ◌∷◌, Contains, filter, refl, sym, ap, subst, inl, inr, arith}
-use Rattle.std.specs.Prelude.{◌↔◌}
-use Rattle.std.specs.List.{count_by}
-use Rattle.std.proofs.lemmas.Bool.{and_from, cases_Bool, cases_lt, eqb-true, eq-eqb, false≢true}
-use Rattle.std.proofs.lemmas.Bool.Decides.{not_from_Decides}
-use Rattle.std.proofs.lemmas.List.Elements.{All-contains}
-use Rattle.hn_base.specs.Prefix.{PlainPrefix}
-use Rattle.hn_base.specs.declared.ids.NodeId.{NodeId}
-use Rattle.hn_base.proofs.AscendingLists.{nothing_in, Contains-head, Contains-tail, Contains-cases}
-use Rattle.hn_base.proofs.Elements.{from_filter, in_filter}
-use Rattle.hn_base.proofs.Keys.{same_node}
-use Rattle.hn_base.proofs.Prefixes.{is_one_prefix, prefix_decided}
+use Rattle.hn_base.proofs.Names.{◌≡◌, ◌∙◌, ◌<◌, ◌≤◌, ℕ, Bool, false, IsTrue, List, [], ◌∷◌, Contains, filter, refl, sym, ap, subst, inl, inr, arith, count_by, and_from, cases_Bool, cases_lt, eqb-true}
+use Rattle.hn_base.proofs.Names.{eq-eqb, false≢true, not_from_Decides, All-contains, PlainPrefix}
+use Rattle.hn_lab.proofs.Names.{◌==◌, ◌↔◌, NodeId, nothing_in, Contains-head, Contains-tail, Contains-cases, in_filter, same_node, prefix_decided, HasVersion, ViewIsNetwork, EntriesAreAsKnown}
+use Rattle.hn_lab.proofs.Names.{seen_by, IsOwnOf, Member, Parts, IsReached, is_in_set, HasGenerated, HaveGenerated, ArePrefixesStill, IsUlaCount}
+use Rattle.hn_base.proofs.Elements.{from_filter}
+use Rattle.hn_base.proofs.Prefixes.{is_one_prefix}
 use Rattle.hn_data.specs.Delegations.{HasDelegation}
-use Rattle.hn_data.specs.Said.{HasVersion}
 use Rattle.hn_data.specs.declared.said.Delegation.{Delegation}
-use Rattle.hn_rules.specs.Laws.{ViewIsNetwork, EntriesAreAsKnown}
-use Rattle.hn_rules.specs.Seen.{seen_by}
-use Rattle.hn_ula.specs.Ula.{IsGenerated, IsForeign, IsLocal, IsOwnOf}
-use Rattle.hn_world.specs.declared.member.Member.{Member}
-use Rattle.hn_world.specs.declared.parts.Parts.{Parts}
-use Rattle.hn_audit.specs.Reached.{IsReached, IsOfOne, runs_as}
-use Rattle.hn_audit.specs.Set.{is_in_set}
-use Rattle.hn_lab.specs.UlaReports.{HasGenerated, HaveGenerated, ArePrefixesStill, IsUlaCount}
+use Rattle.hn_ula.specs.Ula.{IsGenerated, IsForeign, IsLocal}
+use Rattle.hn_audit.specs.Reached.{IsOfOne, runs_as}
 use Rattle.hn_lab.proofs.Sets.{IsKnown, seen_of, in_set, itself, reached_of}
 use Rattle.hn_lab.proofs.UlaCounts.{counted_by, fewer, some_or_none}
 

@@ -1,20 +1,11 @@
 -- The ranks of the nodes on a link, endpoint by endpoint.
-use Rattle.std.proofs.Common.{◌≡◌, ◌⊎◌, ℕ, ◌+◌, ◌≤◌, List, Some, None, Option, Ordering, refl, sym, ◌∙◌, ap, subst, inl, inr, ⊎_elim, slice_get, length, cond, IfSome, IfNone}
-use Rattle.std.specs.declared.cmp.Ordering.TheVariants.{Less, Equal, Greater}
-use Rattle.std.specs.Option.{option_map, option_map_or}
-use Rattle.std.specs.Ordering.{ord_max, ordering_reverse, is_lt}
-use Rattle.std.proofs.lemmas.Option.{slice_get_read}
-use Rattle.hn_base.specs.declared.ids.NodeId.{NodeId}
-use Rattle.hn_base.specs.declared.ids.EpId.{EpId}
-use Rattle.hn_base.specs.declared.letter.Letter.{Letter}
+use Rattle.hn_base.proofs.Names.{◌≡◌, ◌⊎◌, ℕ, ◌+◌, ◌≤◌, List, Some, None, Option, Ordering, refl, sym, ◌∙◌, ap, subst, inl, inr, ⊎_elim, slice_get, length, cond, IfSome, Less, Equal, Greater}
+use Rattle.hn_base.proofs.Names.{option_map, option_map_or, ord_max, ordering_reverse, is_lt, slice_get_read}
+use Rattle.hn_link.proofs.Names.{IfNone, NodeId, EpId, Letter, IsOfFirst, first_further, first_last, first_cases, first_of_all, contains_at, PlainCaps, PlainView, Rank, IsServing, rank_of, rank_cmp}
+use Rattle.hn_link.proofs.Names.{IsElected, HasNoCandidate, IsBestRank}
 use Rattle.hn_base.proofs.AscendingLists.{not_below_itself}
-use Rattle.hn_base.proofs.AmongFirst.{IsOfFirst, first_further, first_last, first_cases, first_of_all}
-use Rattle.hn_base.proofs.PartsAtPlaces.{contains_at}
-use Rattle.hn_typed.specs.Item.{PlainCaps}
-use Rattle.hn_data.specs.View.{PlainView}
-use Rattle.hn_link.specs.declared.rank.Rank.{Rank}
-use Rattle.hn_link.specs.Election.{IsServing, rank_of, rank_cmp, IsElectionCandidate, IsElected, HasNoCandidate}
-use Rattle.hn_link.specs.Standing.{HasRank, IsGreatestRank, IsBestRank}
+use Rattle.hn_link.specs.Election.{IsElectionCandidate}
+use Rattle.hn_link.specs.Standing.{HasRank, IsGreatestRank}
 use Rattle.hn_link.proofs.Elections.{rank_total, exact_rank}
 
 -- ---- the greatest of some ranks, and one more

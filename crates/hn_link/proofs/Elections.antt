@@ -1,18 +1,7 @@
 -- The order of ranks, and that at most one node is elected.
-use Rattle.std.proofs.Common.{◌≡◌, ℕ, List, Option, Some, None, Ordering, refl, ◌∙◌, ap}
-use Rattle.std.specs.Prelude.{MatchOption}
-use Rattle.std.specs.declared.cmp.Ordering.TheVariants.{Less, Equal, Greater}
-use Rattle.std.specs.Cmp.{IsTotalOrder}
-use Rattle.std.specs.Ordering.{on, then_cmp, nat_cmp, ordering_reverse}
-use Rattle.std.proofs.lemmas.Cmp.{on_total, then_total, nat_cmp_total}
-use Rattle.hn_base.specs.Ascending.{IsExact}
-use Rattle.hn_base.specs.declared.ids.NodeId.{NodeId}
-use Rattle.hn_base.specs.declared.ids.EpId.{EpId}
-use Rattle.hn_base.specs.declared.letter.Letter.{Letter}
-use Rattle.hn_base.proofs.AscendingLists.{exact_nat, exact_then}
-use Rattle.hn_data.specs.View.{PlainView}
-use Rattle.hn_link.specs.declared.rank.Rank.{Rank}
-use Rattle.hn_link.specs.Election.{rank_of, rank_cmp, IsElected, HasNoCandidate}
+use Rattle.hn_base.proofs.Names.{◌≡◌, ℕ, List, Option, Some, None, Ordering, refl, ◌∙◌, ap, MatchOption, Less, Equal, Greater, IsTotalOrder, on, then_cmp, nat_cmp, ordering_reverse, on_total}
+use Rattle.hn_base.proofs.Names.{then_total, nat_cmp_total, IsExact}
+use Rattle.hn_link.proofs.Names.{NodeId, EpId, Letter, exact_nat, exact_then, PlainView, Rank, rank_of, rank_cmp, IsElected, HasNoCandidate}
 
 pub rank_total : IsTotalOrder rank_cmp
 rank_total = then_total (on_total (λ r. r.priority) nat_cmp_total) (then_total (on_total (λ r. r.combined) nat_cmp_total) (on_total (λ r. r.node.0) nat_cmp_total))

@@ -1,25 +1,17 @@
 -- Each own endpoint has a Common Link.
-use Rattle.std.proofs.Common.{◌≡◌, ◌∙◌, ◌⊎◌, ◌↔◌, ℕ, ◌+◌, ◌≤◌, List, [], ◌∷◌, ◌++◌, Some, length, get_or, slice_get, Contains, refl, sym, ap, subst, inl, inr, suc, zero, arith}
-use Rattle.std.specs.List.{filter_map}
-use Rattle.std.proofs.lemmas.Bool.{cases_eq}
-use Rattle.std.proofs.lemmas.Cmp.{on_total, then_total, nat_cmp_total}
-use Rattle.std.proofs.lemmas.Option.{slice_get-get_or, slice_get_read}
-use Rattle.hn_base.specs.declared.ids.NodeId.{NodeId}
-use Rattle.hn_base.specs.declared.ids.EpId.{EpId}
-use Rattle.hn_base.proofs.AscendingLists.{Contains-head, Contains-tail, Contains-cases, nothing_in, exact_nat, exact_then}
+use Rattle.hn_base.proofs.Names.{◌≡◌, ◌∙◌, ◌⊎◌, ◌↔◌, ℕ, ◌+◌, ◌≤◌, List, [], ◌∷◌, ◌++◌, Some, length, get_or, slice_get, Contains, refl, sym, ap, subst, inl, inr, suc, zero, arith, filter_map}
+use Rattle.hn_base.proofs.Names.{cases_eq, on_total, then_total, nat_cmp_total, slice_get-get_or, slice_get_read, nat_cmp}
+use Rattle.hn_link.proofs.Names.{NodeId, EpId, Contains-head, Contains-cases, nothing_in, exact_nat, exact_then, contains_at, IsPeerAt, IsLinked, HasPeer, peer_link, PlainView, PeerLink, Entry}
+use Rattle.hn_link.proofs.Names.{IsCommonLink, IsJoined, endpoint_cmp}
+use Rattle.hn_base.proofs.AscendingLists.{Contains-tail}
 use Rattle.hn_base.proofs.AscendingMade.{ascending_of}
 use Rattle.hn_base.proofs.SoOrNot.{Decided, both_decided, one_or_none}
-use Rattle.hn_base.proofs.PartsAtPlaces.{contains_at, part_of}
+use Rattle.hn_base.proofs.PartsAtPlaces.{part_of}
 use Rattle.hn_typed.specs.Item.{PlainItem}
-use Rattle.std.specs.Ordering.{nat_cmp}
 use Rattle.hn_data.specs.Items.{AreItems}
 use Rattle.hn_data.specs.Laws.{ItemsAreUnique, ItemsOrNone}
-use Rattle.hn_data.specs.Links.{IsPeerAt}
-use Rattle.hn_data.specs.Peers.{IsLinked, HasPeer, peer_link, peer_of}
-use Rattle.hn_data.specs.View.{PlainView, IsNetwork}
-use Rattle.hn_data.specs.declared.said.PeerLink.{PeerLink}
-use Rattle.hn_data.specs.declared.view.Entry.{Entry}
-use Rattle.hn_link.specs.CommonLink.{IsCommonLink, IsJoined, endpoint_cmp}
+use Rattle.hn_data.specs.Peers.{peer_of}
+use Rattle.hn_data.specs.View.{IsNetwork}
 use Rattle.hn_link.proofs.Joined.{AreJoined, none_joined, joined_more, joined_same, common_from_joined}
 
 -- ---- what is decided

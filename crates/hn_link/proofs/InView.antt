@@ -1,16 +1,8 @@
 -- A node of a view, and what it says.
-use Rattle.std.proofs.Common.{◌≡◌, ℕ, Some, sym, ap, subst, ◌∙◌, slice_get}
-use Rattle.std.specs.List.Sorted.{IsStrictlySortedBy}
-use Rattle.std.specs.Ordering.{nat_cmp}
-use Rattle.hn_base.specs.declared.ids.NodeId.{NodeId}
-use Rattle.hn_base.specs.declared.letter.Letter.{Letter}
-use Rattle.hn_typed.specs.Item.{PlainCaps}
+use Rattle.hn_base.proofs.Names.{◌≡◌, ℕ, Some, sym, ap, subst, ◌∙◌, slice_get, IsStrictlySortedBy, nat_cmp}
+use Rattle.hn_link.proofs.Names.{NodeId, Letter, PlainCaps, PlainView, ids_of, Entry, part_is, one_element, IsServing}
 use Rattle.hn_data.specs.Items.{HasItems}
 use Rattle.hn_data.specs.Said.{version_of}
-use Rattle.hn_data.specs.View.{PlainView, ids_of}
-use Rattle.hn_data.specs.declared.view.Entry.{Entry}
-use Rattle.hn_base.proofs.PartsAtPlaces.{part_is, one_element}
-use Rattle.hn_link.specs.Election.{IsServing}
 
 -- what a node that serves says is what the node with its identifier says
 pub version_there : (view : PlainView) (letter : Letter) (id : NodeId) (caps : PlainCaps) (place : ℕ) (x : Entry) → IsStrictlySortedBy nat_cmp (ids_of view.nodes)

@@ -1,21 +1,10 @@
 -- The endpoints that are linked with an own endpoint, peer by peer.
-use Rattle.std.proofs.Common.{◌≡◌, ◌⊎◌, ◌↔◌, ℕ, ◌+◌, ◌≤◌, List, [], ◌∷◌, ◌++◌, length, Some, refl, sym, ◌∙◌, ap, subst, inl, inr, ⊎_elim, slice_get, Contains, Option, None, IfSome, IfNone, IsTrue}
-use Rattle.std.proofs.Common.{is_some}
-use Rattle.std.specs.List.Sorted.{IsStrictlySortedBy}
-use Rattle.std.specs.Ordering.{nat_cmp}
-use Rattle.std.proofs.lemmas.List.Elements.{Contains-push, Contains-push_cases, Contains-append_left}
-use Rattle.std.proofs.lemmas.Option.{slice_get_read}
-use Rattle.hn_base.specs.declared.ids.NodeId.{NodeId}
-use Rattle.hn_base.specs.declared.ids.EpId.{EpId}
-use Rattle.hn_base.proofs.AscendingLists.{nothing_in, Contains-head, Contains-cases}
-use Rattle.hn_base.proofs.AmongFirst.{IsOfFirst, none_of_first, first_further, first_last, first_cases, first_of_all}
-use Rattle.hn_base.proofs.PartsAtPlaces.{one_element, contains_at}
-use Rattle.hn_data.specs.Links.{IsPeerAt}
-use Rattle.hn_data.specs.Peers.{IsLinked, HasPeer, peer_link}
-use Rattle.hn_data.specs.View.{PlainView, ids_of}
-use Rattle.hn_data.specs.declared.said.PeerLink.{PeerLink}
-use Rattle.hn_data.specs.declared.view.Entry.{Entry}
-use Rattle.hn_link.specs.CommonLink.{IsLinkedWithOwn, IsOwnEndpoint, IsOnCommonLink, IsJoined}
+use Rattle.hn_base.proofs.Names.{◌≡◌, ◌⊎◌, ◌↔◌, ℕ, ◌+◌, ◌≤◌, List, [], ◌∷◌, ◌++◌, length, Some, refl, sym, ◌∙◌, ap, subst, inl, inr, ⊎_elim, slice_get, Contains, Option, None, IfSome, IsTrue, is_some}
+use Rattle.hn_base.proofs.Names.{IsStrictlySortedBy, nat_cmp, Contains-push, Contains-push_cases, Contains-append_left, slice_get_read}
+use Rattle.hn_link.proofs.Names.{IfNone, NodeId, EpId, nothing_in, Contains-head, Contains-cases, IsOfFirst, first_further, first_last, first_cases, first_of_all, one_element, contains_at, IsPeerAt}
+use Rattle.hn_link.proofs.Names.{IsLinked, HasPeer, peer_link, PlainView, ids_of, PeerLink, Entry, IsLinkedWithOwn, IsOnCommonLink, IsJoined}
+use Rattle.hn_base.proofs.AmongFirst.{none_of_first}
+use Rattle.hn_link.specs.CommonLink.{IsOwnEndpoint}
 
 -- one of the first n peers is joined, and this is its endpoint
 abbrev pub IsJoinedAs : List Entry → Entry → ℕ → NodeId × EpId → PeerLink → Type 0

@@ -1,13 +1,8 @@
 -- Common Links while time passes.
-use Rattle.std.proofs.Common.{◌≡◌, ◌∙◌, ◌↔◌, ℕ, List, Contains, refl, sym, ap, subst, inl, inr}
-use Rattle.hn_base.specs.declared.ids.NodeId.{NodeId}
-use Rattle.hn_base.specs.declared.ids.EpId.{EpId}
+use Rattle.hn_base.proofs.Names.{◌≡◌, ◌∙◌, ◌↔◌, ℕ, List, Contains, refl, sym, ap, subst, inl, inr}
+use Rattle.hn_link.proofs.Names.{NodeId, EpId, IsLinked, PlainView, Entry, IsLinkedWithOwn, IsOnCommonLink, IsCommonLink}
 use Rattle.hn_base.proofs.AscendingLists.{Contains-map, Contains-from_map}
 use Rattle.hn_data.specs.Later.{IsLater, aged_entry}
-use Rattle.hn_data.specs.Peers.{IsLinked}
-use Rattle.hn_data.specs.View.{PlainView}
-use Rattle.hn_data.specs.declared.view.Entry.{Entry}
-use Rattle.hn_link.specs.CommonLink.{IsLinkedWithOwn, IsOnCommonLink, IsCommonLink}
 use Rattle.hn_link.specs.Laws.{CommonLinkOfLater}
 
 -- linked endpoints, by equal data and names

@@ -1,15 +1,10 @@
 -- The words of the command line ask for one form.
-use Rattle.std.proofs.Common.{◌≡◌, ◌≢◌, ◌⊎◌, inl, inr, ℕ, ◌<◌, List, [], ◌∷◌, length, get_or, codes, Option, None, Some, sym, ap, subst, ◌∙◌, arith}
-use Rattle.std.specs.Prelude.{IfNone}
-use Rattle.std.proofs.lemmas.List.{get_or-map}
+use Rattle.hn_base.proofs.Names.{◌≡◌, ◌≢◌, ◌⊎◌, inl, inr, ℕ, ◌<◌, List, [], ◌∷◌, length, get_or, codes, Option, None, Some, sym, ap, subst, ◌∙◌, arith, IfNone, get_or-map, name_text}
+use Rattle.hn_look.proofs.Names.{Name, Parts, Sees, SeesTable, SeesWhy, MayStarve, Log, Table, Why}
 use Rattle.std.specs.Prelude.{map}
-use Rattle.hn_base.specs.Name.{name_text}
-use Rattle.hn_base.specs.declared.name.Name.{Name}
-use Rattle.hn_world.specs.declared.parts.Parts.{Parts}
 use Rattle.hn_look.specs.Form.{IsNamed, IsPlainWord, AreNamedWords, IsFormOf}
-use Rattle.hn_look.specs.Look.{Sees, SeesLog, SeesTable, SeesWhy, MayStarve}
+use Rattle.hn_look.specs.Look.{SeesLog}
 use Rattle.hn_look.specs.declared.words.Form.{Form}
-use Rattle.hn_look.specs.declared.words.Form.TheVariants.{Log, Table, Why}
 
 -- the text of the word at a place
 pub word_at : {A : Type 0} (text : A → List ℕ) (words : List A) (i : ℕ) (word : A) (found : List ℕ) → i < length words → word ≡ get_or words i word → found ≡ text word

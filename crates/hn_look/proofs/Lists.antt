@@ -1,22 +1,13 @@
 -- Texts of several things, one after another.
-use Rattle.std.proofs.Common.{◌≡◌, ◌∙◌, ◌+◌, ◌<◌, ◌≤◌, ℕ, List, [], ◌∷◌, ◌++◌, Option, None, Some, codes, length, take, drop, get_or, inl, inr}
-use Rattle.std.proofs.Common.{refl, sym, ap, add-one, sub-one, append-nil, append_assoc, arith, slice_get}
-use Rattle.std.specs.List.{flat_map}
-use Rattle.std.proofs.Math.Dec.{eqb-suc-zero}
-use Rattle.std.proofs.lemmas.List.{flat_map_more, take_more, take_all, drop_more, drop_all}
-use Rattle.std.proofs.lemmas.Option.{same_Some, slice_get_cases}
+use Rattle.hn_base.proofs.Names.{◌≡◌, ◌∙◌, ◌+◌, ◌<◌, ◌≤◌, ℕ, List, [], ◌∷◌, ◌++◌, Option, None, Some, codes, length, take, drop, get_or, inl, inr, refl, sym, ap, add-one, sub-one, append_assoc, arith}
+use Rattle.hn_base.proofs.Names.{slice_get, flat_map, eqb-suc-zero, flat_map_more, take_more, take_all, drop_more, drop_all, same_Some, slice_get_cases, decimal, option_map, option_and_then, hex_text}
+use Rattle.hn_look.proofs.Names.{append-nil, Parts, Name, Member, sender_endpoint, endpoint_text, copy_lines}
 use Rattle.hn_world.specs.declared.copies.MailCopy.{MailCopy}
-use Rattle.hn_world.specs.declared.parts.Parts.{Parts}
 use Rattle.hn_world.specs.Refusal.{copy_at}
-use Rattle.std.specs.Fmt.{decimal}
-use Rattle.std.specs.Option.{option_map, option_and_then}
-use Rattle.hn_base.specs.HexText.{hex_text}
-use Rattle.hn_base.specs.declared.name.Name.{Name}
 use Rattle.hn_world.specs.Leaves.{info_of_copy, HasInfo}
 use Rattle.hn_world.specs.declared.copies.CopyInfo.{CopyInfo}
-use Rattle.hn_world.specs.declared.member.Member.{Member}
 use Rattle.hn_look.specs.Events.{way_word}
-use Rattle.hn_look.specs.Steps.{sender_place, sender_endpoint, endpoint_text, copy_line, copy_lines}
+use Rattle.hn_look.specs.Steps.{sender_place, copy_line}
 
 -- one more, and all
 module _ {A : Type 0} (f : A → List ℕ) (xs : List A) (i : ℕ) (begins so_far : List ℕ) where

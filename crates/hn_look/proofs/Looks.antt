@@ -1,19 +1,10 @@
 -- What a look comes to.
-use Rattle.std.proofs.Common.{◌≡◌, ◌≢◌, ◌⊎◌, ℕ, zero, suc, List, [], ◌∷◌, ◌++◌, Option, None, Some, Result, Ok, Err, inl, inr, refl}
-use Rattle.std.proofs.Common.{sym, ap, subst, append-nil, lit<, arith}
-use Rattle.std.specs.Prelude.{IfOk, Contains}
-use Rattle.std.specs.Io.KnownBytes.{Appends}
-use Rattle.hn_io.specs.declared.fault.IoFault.{IoFault}
-use Rattle.hn_io.specs.declared.fault.IoFault.TheVariants.{Failed, NoMemory}
-use Rattle.hn_lab.specs.Laws.{PiecesAppend}
-use Rattle.hn_lab.specs.Output.{AppendsPart}
-use Rattle.hn_table.specs.Table.{IsTableText}
-use Rattle.hn_why.specs.Why.{IsWhy}
+use Rattle.hn_base.proofs.Names.{◌≡◌, ◌≢◌, ◌⊎◌, ℕ, zero, suc, List, [], ◌∷◌, ◌++◌, Option, None, Some, Result, Ok, Err, inl, inr, refl, sym, ap, subst, lit<, arith, IfOk, Appends}
+use Rattle.hn_look.proofs.Names.{append-nil, IoFault, Failed, NoMemory, PiecesAppend, AppendsPart, IsTableText, IsWhy, Member, Parts, EndsRefused, Says, SeesTable, SeesWhy}
+use Rattle.std.specs.Prelude.{Contains}
 use Rattle.hn_world.specs.Names.{member_named}
 use Rattle.hn_world.specs.Asked.{of_router, unless_running}
-use Rattle.hn_world.specs.declared.member.Member.{Member}
-use Rattle.hn_world.specs.declared.parts.Parts.{Parts}
-use Rattle.hn_look.specs.Look.{SeesOf, EndsRefused, IsRefusedLook, IsLook, Writes, Looked, Says, TableOf, SeesTable, WhyUnless, SeesWhy, looked_status}
+use Rattle.hn_look.specs.Look.{SeesOf, IsRefusedLook, IsLook, Writes, Looked, TableOf, WhyUnless, looked_status}
 use Rattle.hn_look.proofs.Streams.{AppendsCut-more, Appends-none, part_is_cut}
 
 -- a text that is of one kind is of another

@@ -1,16 +1,10 @@
 -- The last line of the transcript of a script that was refused.
-use Rattle.std.proofs.Common.{◌≡◌, ◌≢◌, ◌∙◌, ◌+◌, ◌-◌, ◌/◌, ◌%◌, ◌<◌, ◌≤◌, ℕ, zero, suc, Bool, true, false, not, List, [], ◌∷◌, ◌++◌, Option}
-use Rattle.std.proofs.Common.{Some, length, length-append, get_or, take, drop, ⊎_elim, lit<, inl, inr, refl, sym, ap, subst, append-nil}
-use Rattle.std.proofs.Common.{codes, arith}
-use Rattle.std.specs.Prelude.{◌==◌, ◌&&◌, if◌then◌else◌}
-use Rattle.std.specs.Fmt.{decimal, digits, digits_onto, digit_glyph}
-use Rattle.std.specs.List.{list_all}
-use Rattle.std.proofs.lemmas.Grind.{flat_map-append}
-use Rattle.std.proofs.Math.Seq.{get_or-append_right, get_or-append_seam}
-use Rattle.std.proofs.lemmas.Bool.{lt-ltb, ne_eqb, eqb-true, cases_lt}
-use Rattle.std.proofs.lemmas.List.{drop_at, take_rest}
+use Rattle.hn_base.proofs.Names.{◌≡◌, ◌≢◌, ◌∙◌, ◌+◌, ◌-◌, ◌/◌, ◌%◌, ◌<◌, ◌≤◌, ℕ, zero, suc, Bool, true, false, not, List, [], ◌∷◌, ◌++◌, Option, Some, length, length-append, get_or, take, drop}
+use Rattle.hn_base.proofs.Names.{⊎_elim, lit<, inl, inr, refl, sym, ap, subst, codes, arith, ◌==◌, ◌&&◌, if◌then◌else◌, decimal, digits_onto, digit_glyph, list_all, flat_map-append}
+use Rattle.hn_base.proofs.Names.{get_or-append_right, get_or-append_seam, lt-ltb, ne_eqb, eqb-true, cases_lt, drop_at, take_rest, mod_below}
+use Rattle.hn_look.proofs.Names.{append-nil, Parts, EndsRefused, IsLookRun}
+use Rattle.std.specs.Fmt.{digits}
 use Rattle.std.proofs.lemmas.List.Folds.{list_all-append}
-use Rattle.std.proofs.lemmas.Nat.{mod_below}
 use Rattle.memchr.specs.Find.{NoneAfter, Nowhere, Passes, is_byte}
 use Rattle.hn_lab.specs.Lab.{IsLabRun, IsLabOf, status_of}
 use Rattle.hn_lab.specs.Play.{IsPlay}
@@ -19,8 +13,6 @@ use Rattle.hn_lab.specs.Stage.{Stage, Mail}
 use Rattle.hn_lab.specs.Told.{Told, told, bytes_of}
 use Rattle.hn_lab.specs.declared.end.End.{End}
 use Rattle.hn_lab.specs.declared.end.End.TheVariants.{Done, Refused, WireFailed}
-use Rattle.hn_world.specs.declared.parts.Parts.{Parts}
-use Rattle.hn_look.specs.Look.{EndsRefused, IsLookRun}
 use Rattle.hn_look.proofs.Streams.{Appends-none}
 
 -- ---- the line has one `r`

@@ -1,16 +1,10 @@
 -- The replay of a trace, and what is told of it.
-use Rattle.std.proofs.Common.{◌≡◌, ◌∙◌, ◌+◌, ◌-◌, ◌<◌, ◌≤◌, ℕ, List, [], ◌∷◌, ◌++◌, Option, Some, None, length, drop, get_or, slice_index}
-use Rattle.std.proofs.Common.{⊎_elim, refl, sym, ap, subst, append-nil, append_assoc, length-append, arith}
-use Rattle.std.specs.Io.KnownBytes.{Appends}
+use Rattle.hn_base.proofs.Names.{◌≡◌, ◌∙◌, ◌+◌, ◌-◌, ◌<◌, ◌≤◌, ℕ, List, [], ◌∷◌, ◌++◌, Option, Some, None, length, drop, get_or, slice_index, ⊎_elim, refl, sym, ap, subst, append_assoc, length-append}
+use Rattle.hn_base.proofs.Names.{arith, Appends, get_or-append_right, cases_lt, drop_more, drop_all, same_Some}
+use Rattle.hn_look.proofs.Names.{append-nil, IoFault, PiecesAppend, Parts, AppendsCut}
 use Rattle.std.proofs.Math.ListN.{get_or-append}
-use Rattle.std.proofs.Math.Seq.{get_or-append_right}
-use Rattle.std.proofs.lemmas.Bool.{cases_lt}
-use Rattle.std.proofs.lemmas.List.{drop_more, drop_all}
-use Rattle.std.proofs.lemmas.Option.{same_Some}
 use Rattle.hn_base.specs.Words as drawn
 use Rattle.hn_base.specs.declared.version.Version.{Version}
-use Rattle.hn_io.specs.declared.fault.IoFault.{IoFault}
-use Rattle.hn_lab.specs.Laws.{PiecesAppend}
 use Rattle.hn_lab.specs.Output.{AppendsFront}
 use Rattle.hn_rules.specs.declared.done.Note.{Note}
 use Rattle.hn_world.specs.Laws.{StepIsUnique}
@@ -19,9 +13,7 @@ use Rattle.hn_world.specs.declared.event.WEvent.{WEvent}
 use Rattle.hn_world.specs.Replay.{empty_world, Goes, Replays, IsReplayed}
 use Rattle.hn_world.specs.Step.{Step, IsStep}
 use Rattle.hn_world.specs.declared.event.Traced.{Traced}
-use Rattle.hn_world.specs.declared.parts.Parts.{Parts}
 use Rattle.hn_look.specs.Log.{IsStepText, IsLogFrom, IsLog}
-use Rattle.hn_look.specs.Output.{AppendsCut}
 use Rattle.hn_look.specs.Steps.{step_text}
 use Rattle.hn_look.proofs.Streams.{Appends-none, AppendsCut-more}
 

@@ -1,11 +1,6 @@
 -- One write after another.
-use Rattle.std.proofs.Common.{◌≡◌, ◌∙◌, ℕ, List, [], ◌++◌, Option, None, Some, sym, ap, arith, append-nil, append_assoc, length-append}
-use Rattle.std.specs.Io.KnownBytes.{Appends}
-use Rattle.hn_io.specs.declared.fault.IoFault.{IoFault}
-use Rattle.hn_io.specs.declared.fault.IoFault.TheVariants.{Failed, NoMemory}
-use Rattle.hn_lab.specs.Output.{AppendsPart}
-use Rattle.hn_lab.specs.Laws.{PiecesAppend}
-use Rattle.hn_look.specs.Output.{AppendsCut}
+use Rattle.hn_base.proofs.Names.{◌≡◌, ◌∙◌, ℕ, List, [], ◌++◌, Option, None, Some, sym, ap, arith, append_assoc, length-append, Appends}
+use Rattle.hn_look.proofs.Names.{append-nil, IoFault, Failed, NoMemory, AppendsPart, PiecesAppend, AppendsCut}
 
 pub Appends-none : (a : Option (List ℕ)) → Appends a a []
 Appends-none None = tt

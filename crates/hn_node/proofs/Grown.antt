@@ -1,13 +1,7 @@
 -- Entries that were added to the log, and what was sent.
-use Rattle.std.proofs.Common.{◌≡◌, ◌∙◌, ℕ, List, [], ◌∷◌, ◌++◌, Option, length, refl, sym, ap, subst, append_assoc, append-nil, arith}
-use Rattle.std.proofs.lemmas.Grind.{flat_map-append}
-use Rattle.std.proofs.lemmas.List.Elements.{All-nil, All-push, All-append}
-use Rattle.hn_base.specs.Words.{IsAt, Took}
-use Rattle.hn_wire.specs.declared.datagram.Datagram.{Datagram}
-use Rattle.hn_node.specs.declared.logged.Logged.{Logged}
-use Rattle.hn_node.specs.declared.node.Node.{Node}
-use Rattle.hn_node.specs.Turns.{PlainSite, handed_of, handed_in, words_of, IsBounded}
-use Rattle.hn_node.specs.Steps.{counted, Adds, Grows}
+use Rattle.hn_base.proofs.Names.{◌≡◌, ◌∙◌, ℕ, List, [], ◌∷◌, ◌++◌, Option, length, refl, sym, ap, subst, append_assoc, arith, flat_map-append, All-nil, All-push, All-append, IsAt, Took}
+use Rattle.hn_node.proofs.Names.{append-nil, Datagram, Logged, Node, PlainSite, handed_of, handed_in, words_of, counted, Adds, Grows}
+use Rattle.hn_node.specs.Turns.{IsBounded}
 use Rattle.hn_node.proofs.Sent.{counted_lists}
 
 pub handed_both : (at : PlainSite) (xs ys : List Logged) → handed_in at (xs ++ ys) ≡ handed_in at xs ++ handed_in at ys

@@ -1,3 +1,4 @@
+mod Names
 mod Sent
 mod Stepped
 mod Grown

@@ -1,16 +1,9 @@
 -- The log of turns leads from router to router, and does so once.
-use Rattle.std.proofs.Common.{◌≡◌, ◌∙◌, ◌+◌, inl, inr, ℕ, zero, suc, List, [], ◌∷◌, ◌++◌, Option, None, Some, length, refl, sym, ap, subst, slice_index}
-use Rattle.hn_base.specs.Words.{Begins}
+use Rattle.hn_base.proofs.Names.{◌≡◌, ◌∙◌, ◌+◌, inl, inr, ℕ, zero, suc, List, [], ◌∷◌, ◌++◌, Option, None, Some, length, refl, sym, ap, subst, slice_index, Begins}
+use Rattle.hn_node.proofs.Names.{Datagram, Done, State, Happened, Logged, NodeEvent, PlainSite, Serving, plain_of, IsEntry, Arrives, IsTurn, Turns, CutTurn, words_of}
 use Rattle.hn_base.proofs.FirstWords.{begins_front, begins_back, begins_along}
-use Rattle.hn_wire.specs.declared.datagram.Datagram.{Datagram}
-use Rattle.hn_rules.specs.declared.done.Done.{Done}
-use Rattle.hn_rules.specs.declared.state.State.{State}
-use Rattle.hn_router.specs.Act.{Happened}
 use Rattle.hn_router.specs.Laws.{OneResult}
-use Rattle.hn_node.specs.declared.logged.Logged.{Logged}
-use Rattle.hn_node.specs.declared.logged.NodeEvent.{NodeEvent}
 use Rattle.hn_node.specs.declared.logged.NodeEvent.TheVariants as node
-use Rattle.hn_node.specs.Turns.{PlainSite, Serving, plain_of, IsEntry, Arrives, IsTurn, Turns, CutTurn, words_of}
 use Rattle.hn_node.specs.Laws.{Leads, events_of, TurnsAreLogged, LogLeadsOnce}
 
 -- ---- one log after another

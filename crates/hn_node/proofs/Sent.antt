@@ -1,12 +1,9 @@
 -- Datagrams that were sent one after another, and counted.
-use Rattle.std.proofs.Common.{◌≡◌, ◌∙◌, ◌<◌, ◌+◌, ℕ, List, [], ◌∷◌, ◌++◌, Option, None, Some, length, take, drop, get_or, refl, sym, ap, subst, append_assoc, append-nil, length-append, arith}
-use Rattle.std.proofs.lemmas.List.{take_more, drop_more, take-append-drop}
-use Rattle.std.proofs.lemmas.Grind.{flat_map-append}
+use Rattle.hn_base.proofs.Names.{◌≡◌, ◌∙◌, ◌<◌, ◌+◌, ℕ, List, [], ◌∷◌, ◌++◌, Option, None, Some, length, take, drop, get_or, refl, sym, ap, subst, append_assoc, length-append, arith, take_more}
+use Rattle.hn_base.proofs.Names.{drop_more, take-append-drop, flat_map-append, flat_map}
+use Rattle.hn_node.proofs.Names.{append-nil, Datagram, counted, HandsAll, HandsPart}
 use Rattle.std.proofs.lemmas.List.Concat.{flat_map-cons}
-use Rattle.std.specs.List.{flat_map}
-use Rattle.hn_wire.specs.declared.datagram.Datagram.{Datagram}
 use Rattle.hn_node.specs.Turns.{SendsAll}
-use Rattle.hn_node.specs.Steps.{counted, HandsAll, HandsPart}
 
 none_sent : (a : Option (List Datagram)) → SendsAll [] a a
 none_sent None = tt

@@ -1,19 +1,10 @@
 -- An event that was entered in the log, and what came of it that was sent.
-use Rattle.std.proofs.Common.{◌≡◌, ◌∙◌, ℕ, false, List, [], ◌∷◌, ◌++◌, Option, length, get_or, Result, Ok, Err, refl, sym, ap, subst}
-use Rattle.std.proofs.lemmas.List.{get_or_push}
-use Rattle.std.specs.Prelude.{◌≤◌, All, OnOk, OnErr}
+use Rattle.hn_base.proofs.Names.{◌≡◌, ◌∙◌, ℕ, false, List, [], ◌∷◌, ◌++◌, Option, length, get_or, Result, Ok, Err, refl, sym, ap, subst, get_or_push, All, OnOk, OnErr, Took}
+use Rattle.hn_node.proofs.Names.{Datagram, Done, Outgoing, State, Happened, Logged, NodeEvent, Node, PlainSite, serving, handed_of, plain_of, IsEntry, Steps, CutSteps, HandsAll, HandsPart, Adds}
+use Rattle.std.specs.Prelude.{◌≤◌}
 use Rattle.std.specs.Result.{is_err}
-use Rattle.hn_base.specs.Words.{Took}
-use Rattle.hn_wire.specs.declared.datagram.Datagram.{Datagram}
-use Rattle.hn_rules.specs.declared.done.Done.{Done}
-use Rattle.hn_rules.specs.declared.done.Outgoing.{Outgoing}
-use Rattle.hn_rules.specs.declared.state.State.{State}
-use Rattle.hn_router.specs.Act.{PlainEvent, Happened}
-use Rattle.hn_node.specs.declared.logged.Logged.{Logged}
-use Rattle.hn_node.specs.declared.logged.NodeEvent.{NodeEvent}
-use Rattle.hn_node.specs.declared.node.Node.{Node}
-use Rattle.hn_node.specs.Turns.{PlainSite, serving, handed_of, plain_of, IsEntry, Steps, CutSteps, IsShort}
-use Rattle.hn_node.specs.Steps.{HandsAll, HandsPart, Adds}
+use Rattle.hn_router.specs.Act.{PlainEvent}
+use Rattle.hn_node.specs.Turns.{IsShort}
 
 -- what holds after an answer that is no error, and after one that is
 pub of_ok : {T E : Type 0} (r : Result T E) (P : Type 0) → OnOk r P → false ≡ is_err r → P

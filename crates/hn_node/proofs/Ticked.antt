@@ -1,11 +1,7 @@
 -- A turn has one tick.
-use Rattle.std.proofs.Common.{◌≡◌, ◌∙◌, ◌+◌, inl, inr, ℕ, zero, suc, Bool, true, false, cond, List, [], ◌∷◌, ◌++◌, Option, None, Some, ap, arith}
-use Rattle.std.specs.List.{count_by}
-use Rattle.std.proofs.lemmas.List.Sums.{sum_by-append}
-use Rattle.hn_wire.specs.declared.datagram.Datagram.{Datagram}
-use Rattle.hn_node.specs.declared.logged.Logged.{Logged}
-use Rattle.hn_node.specs.declared.logged.NodeEvent.{NodeEvent}
-use Rattle.hn_node.specs.Turns.{PlainSite, Serving, TakesTurn, Arrives, IsTurn, Turns, is_tick, is_tick_event}
+use Rattle.hn_base.proofs.Names.{◌≡◌, ◌∙◌, ◌+◌, inl, inr, ℕ, zero, suc, Bool, true, false, cond, List, [], ◌∷◌, ◌++◌, Option, None, Some, ap, arith, count_by, sum_by-append}
+use Rattle.hn_node.proofs.Names.{Datagram, Logged, NodeEvent, PlainSite, Serving, TakesTurn, Arrives, IsTurn, Turns, is_tick}
+use Rattle.hn_node.specs.Turns.{is_tick_event}
 
 count_both : (xs ys : List Logged) → count_by is_tick (xs ++ ys) ≡ count_by is_tick xs + count_by is_tick ys
 count_both xs ys = sum_by-append (λ (l : Logged). cond (is_tick l) 1 0) xs ys

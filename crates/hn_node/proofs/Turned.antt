@@ -1,13 +1,10 @@
 -- A turn, and one turn more.
-use Rattle.std.proofs.Common.{◌≡◌, ◌+◌, ◌<◌, inl, inr, ℕ, suc, List, [], ◌∷◌, ◌++◌, Option, Some, refl, subst, append-nil, arith}
-use Rattle.hn_wire.specs.declared.datagram.Datagram.{Datagram}
+use Rattle.hn_base.proofs.Names.{◌≡◌, ◌+◌, ◌<◌, inl, inr, ℕ, suc, List, [], ◌∷◌, ◌++◌, Option, Some, refl, subst, arith}
+use Rattle.hn_node.proofs.Names.{append-nil, Datagram, Logged, NodeEvent, Node, PlainSite, Serving, serving, handed_of, handed_in, TakesTurn, Steps, CutSteps, Arrives, IsTurn, CutTurn, Turns, Adds}
+use Rattle.hn_node.proofs.Names.{Grows}
 use Rattle.hn_wire.specs.Clocks.{ReadsClock}
-use Rattle.hn_node.specs.declared.logged.Logged.{Logged}
-use Rattle.hn_node.specs.declared.logged.NodeEvent.{NodeEvent}
 use Rattle.hn_node.specs.declared.logged.NodeEvent.TheVariants as node
-use Rattle.hn_node.specs.declared.node.Node.{Node}
-use Rattle.hn_node.specs.Turns.{PlainSite, Serving, serving, handed_of, handed_in, TakesTurn, FailsToTake, Steps, CutSteps, Arrives, IsTurn, CutTurn, Turns, CutTurns}
-use Rattle.hn_node.specs.Steps.{Adds, Grows}
+use Rattle.hn_node.specs.Turns.{FailsToTake, CutTurns}
 use Rattle.hn_node.proofs.Grown.{none_grown, one_grown, both_grown, both_handed}
 
 -- what arrives, of what was taken

@@ -1,20 +1,12 @@
 -- A router's own addresses: in order, few, and each of an attached endpoint.
-use Rattle.std.proofs.Common.{◌≡◌, ◌<◌, ◌+◌, ℕ, zero, suc, Bool, true, false, not, List, [], ◌∷◌, length, get_or, refl, sym, subst, arith}
-use Rattle.std.specs.Prelude.{All, IsTrue, ◌==◌, ◌&&◌, nat_le}
+use Rattle.hn_base.proofs.Names.{◌≡◌, ◌<◌, ◌+◌, ℕ, zero, suc, Bool, true, false, not, List, [], ◌∷◌, length, get_or, refl, sym, subst, arith, All, ◌==◌, ◌&&◌, nat_le, Less, Equal, Greater}
+use Rattle.hn_base.proofs.Names.{IsTotalOrder, AllByRecursion, IsAllAdjacentAnswer, list_all, is_lt, and_parts, leb-true, nat_cmp_total, on_total, then_total, IsStrictlySortedBy-filter}
+use Rattle.hn_base.proofs.Names.{AllPass-from_list_all, length-filter, count_by-le-length}
+use Rattle.hn_own.proofs.Names.{EpId, Port, OwnAddress, address_cmp, addresses_without, is_attached}
+use Rattle.std.specs.Prelude.{IsTrue}
 use Rattle.std.specs.declared.cmp.Ordering.{Ordering}
-use Rattle.std.specs.declared.cmp.Ordering.TheVariants.{Less, Equal, Greater}
-use Rattle.std.specs.Cmp.{IsTotalOrder}
-use Rattle.std.specs.List.{AllByRecursion, IsAllAdjacentAnswer, list_all}
 use Rattle.std.specs.List.Sorted.{IsStrictlySortedBy}
-use Rattle.std.specs.Ordering.{is_lt}
-use Rattle.std.proofs.lemmas.Bool.{and_parts, leb-true}
-use Rattle.std.proofs.lemmas.Cmp.{nat_cmp_total, on_total, then_total}
-use Rattle.std.proofs.lemmas.List.Kept.{IsStrictlySortedBy-filter}
-use Rattle.std.proofs.lemmas.List.Sums.{AllPass-from_list_all, length-filter, count_by-le-length}
-use Rattle.hn_base.specs.declared.ids.EpId.{EpId}
-use Rattle.hn_dncp.specs.declared.port.Port.{Port}
-use Rattle.hn_own.specs.Addresses.{OwnAddress, AreAddresses, address_cmp, ascends, may_address, addresses_without}
-use Rattle.hn_own.specs.Ports.{is_attached}
+use Rattle.hn_own.specs.Addresses.{AreAddresses, ascends, may_address}
 
 address_total : IsTotalOrder address_cmp
 address_total = then_total (on_total (λ (a : OwnAddress). a.0.0) nat_cmp_total) (on_total (λ (a : OwnAddress). a.1) nat_cmp_total)

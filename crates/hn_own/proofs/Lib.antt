@@ -1,3 +1,4 @@
+mod Names
 mod AddressLists
 mod LifetimesEnd
 mod OwnDataMade

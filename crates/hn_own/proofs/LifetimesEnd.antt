@@ -1,12 +1,8 @@
 -- When valid lifetimes of own delegated prefixes end, and what stays.
-use Rattle.std.proofs.Common.{◌≡◌, ◌∙◌, ℕ, ◌≤◌, Bool, true, false, not, List, filter, Contains, Option, Some, None, refl, sym, ap, subst}
-use Rattle.std.specs.List.{list_any}
-use Rattle.std.proofs.lemmas.Bool.{leb-true, le-leb}
+use Rattle.hn_base.proofs.Names.{◌≡◌, ◌∙◌, ℕ, ◌≤◌, Bool, true, false, not, List, filter, Contains, Option, Some, None, refl, sym, ap, subst, list_any, leb-true, le-leb}
+use Rattle.hn_own.proofs.Names.{OwnPrefix, IsOwnPrefixEnd, has_ended}
 use Rattle.hn_base.proofs.Elements.{any_of, any_from, from_filter}
-use Rattle.hn_own.specs.declared.own_prefixes.OwnPrefix.{OwnPrefix}
-use Rattle.hn_own.specs.Due.{IsOwnPrefixEnd}
 use Rattle.hn_own.specs.Laws.{EndingIsAMoment, NoneEnds}
-use Rattle.hn_own.specs.Lifetimes.{has_ended}
 use Rattle.hn_own.proofs.PrefixLists.{filter_none_passes}
 
 abbrev ends : ℕ → OwnPrefix → Bool

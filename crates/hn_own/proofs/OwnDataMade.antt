@@ -1,31 +1,11 @@
 -- The node data of own items whose numbers fit their fields.
-use Rattle.std.proofs.Common.{◌≡◌, ◌<◌, ◌≤◌, ◌^◌, lit≤, ℕ, zero, suc, List, [], ◌∷◌, length, map, get_or, Option, None, Some, refl, arith, codes}
-use Rattle.std.specs.Prelude.{All}
-use Rattle.std.specs.Cmp.Lexicographic.{slice_cmp}
-use Rattle.std.specs.List.{concat, flat_map}
-use Rattle.std.specs.Ordering.{nat_cmp}
-use Rattle.std.proofs.lemmas.Cmp.{nat_list_cmp_total}
-use Rattle.std.proofs.lemmas.List.Elements.{All-cons, All-nil, All-map}
-use Rattle.std.proofs.lemmas.Str.{IsUtf8-from_ascii}
-use Rattle.std.specs.Str.{IsAscii}
-use Rattle.hn_base.specs.declared.caps.Caps.{Caps}
-use Rattle.hn_base.specs.Prefix.{IsPrefix}
-use Rattle.hn_base.proofs.AscendingLists.{exact_nat, exact_lists}
+use Rattle.hn_base.proofs.Names.{◌≡◌, ◌<◌, ◌≤◌, ◌^◌, lit≤, ℕ, zero, suc, List, [], ◌∷◌, length, map, get_or, Option, None, Some, refl, arith, codes, All, slice_cmp, concat, flat_map, nat_cmp}
+use Rattle.hn_base.proofs.Names.{nat_list_cmp_total, All-cons, All-nil, All-map, IsUtf8-from_ascii, IsAscii, IsPrefix}
+use Rattle.hn_own.proofs.Names.{Caps, exact_nat, exact_lists, HasTlvs, spelling, hash_of, External, tlv_of, IsWritable, IsAscendingSet, PeerLink, AssignedPrefix, OwnItems, OwnPrefix, OwnAddress}
+use Rattle.hn_own.proofs.Names.{seconds_left, AreFew, version_item, peer_item, delegated_item, external_items, assigned_item, address_item, items_of, pieces_of, IsRangedLink, IsRangedAssigned}
 use Rattle.hn_base.proofs.AscendingMade.{ascending_of}
-use Rattle.hn_tlv.specs.Grammar.{HasTlvs, spelling}
-use Rattle.hn_hash.specs.Hash.{hash_of}
-use Rattle.hn_typed.specs.Item.{External}
-use Rattle.hn_typed.specs.Written.{tlv_of, IsWritable}
-use Rattle.hn_data.specs.OwnData.{IsAscendingSet}
-use Rattle.hn_data.specs.declared.said.PeerLink.{PeerLink}
-use Rattle.hn_data.specs.declared.said.AssignedPrefix.{AssignedPrefix}
-use Rattle.hn_own.specs.declared.own.OwnItems.{OwnItems}
-use Rattle.hn_own.specs.declared.own_prefixes.OwnPrefix.{OwnPrefix}
-use Rattle.hn_own.specs.Addresses.{OwnAddress}
 use Rattle.hn_own.specs.Laws.{OwnDataExists}
-use Rattle.hn_own.specs.Lifetimes.{seconds_left}
-use Rattle.hn_own.specs.Own.{AreFew, version_item, peer_item, delegated_item, external_items, assigned_item, address_item, items_of, pieces_of}
-use Rattle.hn_own.specs.Ranges.{IsRangedLink, IsRangedAssigned, IsRangedAddress, AreRanged}
+use Rattle.hn_own.specs.Ranges.{IsRangedAddress, AreRanged}
 use Rattle.hn_own.proofs.OwnPieces.{delegated_tlvs, writable_together}
 use Rattle.hn_own.proofs.OwnSizes.{delegated_value_size, assigned_value_size, external_short, own_data_short}
 

@@ -1,15 +1,10 @@
 -- The own items of a router: how many, and whether their numbers fit, by what they are made of.
-use Rattle.std.proofs.Common.{◌<◌, ◌≤◌, ◌*◌, ◌^◌, ℕ, List, [], ◌∷◌, length, Option, None, Some, arith, length-append}
-use Rattle.std.specs.Prelude.{All}
-use Rattle.std.proofs.lemmas.List.{length-map}
-use Rattle.std.proofs.lemmas.List.Elements.{All-append, All-cons, All-head, All-map, All-nil, All-tail}
-use Rattle.hn_assign.specs.declared.assigned.Assigned.{Assigned}
-use Rattle.hn_dncp.specs.declared.port.Port.{Port}
+use Rattle.hn_base.proofs.Names.{◌<◌, ◌≤◌, ◌*◌, ◌^◌, ℕ, List, [], ◌∷◌, length, Option, None, Some, arith, length-append, All, length-map, All-append, All-cons, All-head, All-map, All-nil, All-tail}
+use Rattle.hn_own.proofs.Names.{Assigned, Port, published_in, link_at, links_at, IsRangedLink, IsRangedAssigned}
 use Rattle.hn_dncp.specs.Peers.{ArePeers}
-use Rattle.hn_own.specs.HeldPairs.{published_in}
 use Rattle.hn_own.specs.Laws.{OwnItemsAreFew, OwnItemsAreRanged}
-use Rattle.hn_own.specs.Own.{link_at, links_at, links_of}
-use Rattle.hn_own.specs.Ranges.{IsRangedLink, IsRangedAssigned, IsRangedPeer, IsRangedHeld}
+use Rattle.hn_own.specs.Own.{links_of}
+use Rattle.hn_own.specs.Ranges.{IsRangedPeer, IsRangedHeld}
 use Rattle.hn_own.proofs.PairLists.{published_in-few, published_in-priority}
 
 abbrev HasPeers : Port → Type 0

@@ -1,23 +1,15 @@
 -- The encodings of own items, one after the other.
-use Rattle.std.proofs.Common.{◌≡◌, ◌<◌, ◌+◌, ◌∙◌, ℕ, List, [], ◌∷◌, ◌++◌, length, map, take, get_or, refl, ap, subst, sym, append_assoc, arith}
-use Rattle.std.specs.Prelude.{All, ◌==◌, false}
-use Rattle.std.specs.Int.{w128, to_be_bytes}
-use Rattle.std.specs.List.{flat_map}
-use Rattle.std.proofs.lemmas.Bool.{false≢true}
-use Rattle.std.proofs.lemmas.List.{map_more, map_push, take_more, append-nil}
+use Rattle.hn_base.proofs.Names.{◌≡◌, ◌<◌, ◌+◌, ◌∙◌, ℕ, List, [], ◌∷◌, ◌++◌, length, map, take, get_or, refl, ap, subst, sym, append_assoc, arith, All, ◌==◌, w128, to_be_bytes, flat_map, false≢true}
+use Rattle.hn_base.proofs.Names.{map_push, take_more, append-nil, All-append, All-cons, All-nil, All-push, All-take, All-head, All-tail, All-map, IsPrefix, IsByte}
+use Rattle.hn_own.proofs.Names.{HasTlvs, spelling, bytes_for, prefix_field, PlainItem, External, tlv_of, value_of, IsWritable, IsEncoding, IsEncoded, OwnPrefix, seconds_left, delegated_item}
+use Rattle.hn_own.proofs.Names.{external_items, encodings}
+use Rattle.std.specs.Prelude.{false}
+use Rattle.std.proofs.lemmas.List.{map_more}
 use Rattle.std.proofs.lemmas.List.Concat.{flat_map-append}
-use Rattle.std.proofs.lemmas.List.Elements.{All-append, All-cons, All-nil, All-push, All-take, All-head, All-tail, All-map}
 use Rattle.hn_base.proofs.BigEndian.{number_bytes}
-use Rattle.hn_base.specs.Prefix.{IsPrefix}
-use Rattle.hn_tlv.specs.Grammar.{IsTlv, IsTlvList, HasTlvs, spelling}
-use Rattle.hn_typed.specs.Fields.{word, bytes_for, prefix_field}
-use Rattle.hn_typed.specs.Item.{PlainItem, External}
-use Rattle.hn_typed.specs.Written.{tlv_of, value_of, IsWritable, IsEncoding}
-use Rattle.hn_data.specs.OwnData.{AreBytes, IsEncoded}
-use Rattle.hn_own.specs.declared.own_prefixes.OwnPrefix.{OwnPrefix}
-use Rattle.hn_own.specs.Lifetimes.{seconds_left}
-use Rattle.hn_own.specs.Own.{delegated_item, external_items, encodings}
-use Rattle.hn_base.specs.Byte.{IsByte}
+use Rattle.hn_tlv.specs.Grammar.{IsTlv, IsTlvList}
+use Rattle.hn_typed.specs.Fields.{word}
+use Rattle.hn_data.specs.OwnData.{AreBytes}
 
 -- ---- one more
 

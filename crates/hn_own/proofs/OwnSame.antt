@@ -1,22 +1,11 @@
 -- When two routers' own items are the same.
-use Rattle.std.proofs.Common.{◌≡◌, ◌∙◌, ℕ, Bool, true, false, List, Option, Decides, sym, ap}
-use Rattle.std.specs.Prelude.{◌==◌, ◌&&◌, nat_eq}
-use Rattle.std.specs.Cmp.Lexicographic.{pointwise}
-use Rattle.std.specs.Option.{option_eq}
-use Rattle.std.proofs.lemmas.Bool.{false≢true}
-use Rattle.std.proofs.lemmas.Bool.Decides.{Decides-and, Decides-like, Decides-eqb}
-use Rattle.std.proofs.lemmas.Slice.Eq.{slice_eq-Decides}
-use Rattle.hn_base.specs.declared.caps.Caps.{Caps}
+use Rattle.hn_base.proofs.Names.{◌≡◌, ◌∙◌, ℕ, Bool, true, false, List, Option, Decides, sym, ap, ◌==◌, ◌&&◌, nat_eq, pointwise, option_eq, false≢true, Decides-and, Decides-like, Decides-eqb}
+use Rattle.hn_base.proofs.Names.{slice_eq-Decides, PlainPrefix}
+use Rattle.hn_own.proofs.Names.{Caps, PeerLink, AssignedPrefix, OwnAddress, OwnItems, OwnPrefix}
 use Rattle.hn_base.proofs.DecidingTests.{option_decided}
 use Rattle.hn_base.proofs.KnownByFields.{same_caps}
 use Rattle.hn_base.proofs.Prefixes.{prefix_decided}
-use Rattle.hn_base.specs.Prefix.{PlainPrefix}
 use Rattle.hn_data.specs.Peers.{peer_link}
-use Rattle.hn_data.specs.declared.said.PeerLink.{PeerLink}
-use Rattle.hn_data.specs.declared.said.AssignedPrefix.{AssignedPrefix}
-use Rattle.hn_own.specs.Addresses.{OwnAddress}
-use Rattle.hn_own.specs.declared.own.OwnItems.{OwnItems}
-use Rattle.hn_own.specs.declared.own_prefixes.OwnPrefix.{OwnPrefix}
 
 -- ---- capabilities
 

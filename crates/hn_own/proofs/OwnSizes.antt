@@ -1,29 +1,13 @@
 -- How long the encodings of own items are, and that their node data has less than 36,864 bytes.
-use Rattle.std.proofs.Common.{◌≡◌, ◌≤◌, ◌<◌, ◌+◌, ◌*◌, ◌∙◌, lit≤, ℕ, List, [], ◌∷◌, ◌++◌, length, map, get_or, Decides, refl, ap, subst, arith, codes, length-append}
-use Rattle.std.specs.Cmp.Lexicographic.{slice_cmp}
-use Rattle.std.specs.Int.{w128, to_be_bytes}
-use Rattle.std.specs.List.{concat, flat_map, sum_by}
-use Rattle.std.specs.Ordering.{nat_cmp, eq_by_cmp, is_eq}
-use Rattle.std.proofs.lemmas.Cmp.{nat_list_cmp_total, tied_itself}
-use Rattle.std.proofs.lemmas.List.{length-map, length-replicate, length-take, map-append}
+use Rattle.hn_base.proofs.Names.{◌≡◌, ◌≤◌, ◌<◌, ◌+◌, ◌*◌, ◌∙◌, lit≤, ℕ, List, [], ◌∷◌, ◌++◌, length, map, get_or, Decides, refl, ap, subst, arith, codes, length-append, slice_cmp, w128, to_be_bytes}
+use Rattle.hn_base.proofs.Names.{concat, flat_map, sum_by, nat_cmp, eq_by_cmp, is_eq, nat_list_cmp_total, tied_itself, length-map, length-replicate, length-take, map-append, All-map, sum_by-append}
+use Rattle.hn_base.proofs.Names.{sum_by-cons, IsDistinct-from_sorted, plain_caps, PlainPrefix}
+use Rattle.hn_own.proofs.Names.{exact_nat, exact_lists, equal_from_is_eq, spelling, prefix_field, bytes_for, PlainItem, External, tlv_of, value_of, IsAscendingSet, PeerLink, AssignedPrefix}
+use Rattle.hn_own.proofs.Names.{OwnAddress, OwnItems, OwnPrefix, AreFew, peer_item, delegated_item, external_items, assigned_item, address_item, encodings, pieces_of}
 use Rattle.std.proofs.lemmas.List.Concat.{concat_is, length-flat_map}
-use Rattle.std.proofs.lemmas.List.Elements.{All-map}
-use Rattle.std.proofs.lemmas.List.Sums.{sum_by-append, sum_by-cons, sum_by-le}
-use Rattle.std.proofs.lemmas.Map.Keys.{IsDistinct-from_sorted}
-use Rattle.hn_base.specs.Caps.{plain_caps}
-use Rattle.hn_base.proofs.AscendingLists.{exact_nat, exact_lists, equal_from_is_eq}
-use Rattle.hn_base.specs.Prefix.{PlainPrefix}
-use Rattle.hn_tlv.specs.Grammar.{PlainTlv, spelling}
-use Rattle.hn_typed.specs.Fields.{prefix_field, bytes_for}
-use Rattle.hn_typed.specs.Item.{PlainItem, Version, External}
-use Rattle.hn_typed.specs.Written.{tlv_of, value_of}
-use Rattle.hn_data.specs.OwnData.{IsAscendingSet}
-use Rattle.hn_data.specs.declared.said.PeerLink.{PeerLink}
-use Rattle.hn_data.specs.declared.said.AssignedPrefix.{AssignedPrefix}
-use Rattle.hn_own.specs.Addresses.{OwnAddress}
-use Rattle.hn_own.specs.declared.own.OwnItems.{OwnItems}
-use Rattle.hn_own.specs.declared.own_prefixes.OwnPrefix.{OwnPrefix}
-use Rattle.hn_own.specs.Own.{AreFew, peer_item, delegated_item, external_items, assigned_item, address_item, encodings, pieces_of}
+use Rattle.std.proofs.lemmas.List.Sums.{sum_by-le}
+use Rattle.hn_tlv.specs.Grammar.{PlainTlv}
+use Rattle.hn_typed.specs.Item.{Version}
 use Rattle.hn_own.proofs.OwnSums.{sum_by-le_from_Contains}
 
 spelling_size : (tlv : PlainTlv) → length (spelling tlv) ≤ length tlv.value + 7

@@ -1,10 +1,7 @@
 -- A list without repetition whose elements are all in another list has no greater a sum than that.
-use Rattle.std.proofs.Common.{◌≡◌, ◌≢◌, ◌≤◌, ◌+◌, ◌∙◌, ℕ, Bool, false, List, [], ◌∷◌, ◌++◌, take, drop, Contains, Decides, sym, ap, subst, arith, inl, inr}
-use Rattle.std.specs.List.{IsDistinct, sum_by}
-use Rattle.std.proofs.lemmas.Bool.{false≢true}
-use Rattle.std.proofs.lemmas.List.{drop_more, take-append-drop}
-use Rattle.std.proofs.lemmas.List.Elements.{All-contains, All-from_recursion, Contains-append_cases, Contains-append_left, Contains-append_right}
-use Rattle.std.proofs.lemmas.List.Sums.{sum_by-append, sum_by-cons}
+use Rattle.hn_base.proofs.Names.{◌≡◌, ◌≢◌, ◌≤◌, ◌+◌, ◌∙◌, ℕ, Bool, false, List, [], ◌∷◌, ◌++◌, take, drop, Contains, Decides, sym, ap, subst, arith, inl, inr, sum_by, false≢true, drop_more}
+use Rattle.hn_base.proofs.Names.{take-append-drop, All-contains, All-from_recursion, Contains-append_cases, Contains-append_left, Contains-append_right, sum_by-append, sum_by-cons}
+use Rattle.std.specs.List.{IsDistinct}
 use Rattle.hn_base.proofs.AscendingLists.{Contains-head, Contains-tail, Contains-cases}
 
 -- a list around one of its elements

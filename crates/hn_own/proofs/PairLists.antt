@@ -1,13 +1,8 @@
 -- What a router publishes of its assignments.
-use Rattle.std.proofs.Common.{◌≡◌, ◌<◌, ◌≤◌, ◌+◌, ◌∙◌, ℕ, List, [], ◌∷◌, ◌++◌, length, take, get_or, Option, Some, None, refl, sym, ap, arith}
-use Rattle.std.specs.Prelude.{All}
-use Rattle.std.specs.List.{cons_option}
-use Rattle.std.proofs.lemmas.List.Elements.{All-cons, All-head, All-nil, All-tail, filter_map-append}
-use Rattle.std.proofs.lemmas.List.{take_more}
-use Rattle.hn_assign.specs.declared.assigned.Assigned.{Assigned}
-use Rattle.hn_assign.specs.Facts.{HasOwnPriority}
-use Rattle.hn_data.specs.declared.said.AssignedPrefix.{AssignedPrefix}
-use Rattle.hn_own.specs.HeldPairs.{publication_of, published_in}
+use Rattle.hn_base.proofs.Names.{◌≡◌, ◌<◌, ◌≤◌, ◌+◌, ◌∙◌, ℕ, List, [], ◌∷◌, ◌++◌, length, take, get_or, Option, Some, None, refl, sym, ap, arith, All, cons_option, All-cons, All-head, All-nil}
+use Rattle.hn_base.proofs.Names.{All-tail, filter_map-append, take_more}
+use Rattle.hn_own.proofs.Names.{Assigned, HasOwnPriority, AssignedPrefix, published_in}
+use Rattle.hn_own.specs.HeldPairs.{publication_of}
 
 -- of one more assignment it publishes one more, or nothing
 pub published_in-more : (assigned : List Assigned) (i : ℕ) (c : Assigned) → i < length assigned → c ≡ get_or assigned i c

@@ -1,27 +1,21 @@
 -- The endpoints of a router, when one is put in place, added or taken out.
-use Rattle.std.proofs.Common.{◌≡◌, ◌≢◌, ◌<◌, ◌≤◌, ◌+◌, ◌-◌, ◌^◌, ◌∙◌, ℕ, zero, suc, Bool, true, false, List, [], ◌∷◌, length, map, filter, take, drop, set, get_or, refl, sym, subst, arith, Some, inl}
-use Rattle.std.proofs.Common.{inr, length-set, ap}
-use Rattle.std.specs.Prelude.{insert, position, nat_lt, Option, None, ◌==◌}
-use Rattle.std.specs.Option.{option_map_or}
-use Rattle.std.specs.Ordering.{nat_cmp}
-use Rattle.std.specs.List.Sorted.{IsStrictlySortedBy, IsPartitionPoint, IsPartitionedBy, IsNonDecreasingBy}
-use Rattle.std.proofs.Math.Seq.{map-set_same}
-use Rattle.std.proofs.lemmas.Bool.{cases_lt, lt-ltb, le-ltb, ltb-true, ltb-false, ne_eqb, eqb-true, eqb-false}
-use Rattle.std.proofs.lemmas.List.{get_or-map, length-map, map-append, take-map, drop-map}
-use Rattle.std.proofs.lemmas.List.Edits.{length-insert, get_or-insert_below, get_or-insert_at, get_or-insert_above}
-use Rattle.std.proofs.lemmas.List.Elements.{All-append, All-cons, All-filter, All-nil, All-set, All-take, All-drop}
-use Rattle.std.proofs.lemmas.List.Quantifiers.{position-Some}
-use Rattle.std.proofs.lemmas.List.Sorted.{IsPartitionedBy-ltb}
-use Rattle.std.proofs.lemmas.List.Sums.{length-filter, count_by-le-length}
-use Rattle.std.proofs.lemmas.Map.Keys.{below_from_sorted, sorted_from_strictly_increasing}
-use Rattle.hn_base.specs.declared.ids.EpId.{EpId}
+use Rattle.hn_base.proofs.Names.{◌≡◌, ◌≢◌, ◌<◌, ◌≤◌, ◌+◌, ◌-◌, ◌^◌, ◌∙◌, ℕ, zero, suc, Bool, true, false, List, [], ◌∷◌, length, map, filter, take, drop, set, get_or, refl, sym, subst, arith, Some}
+use Rattle.hn_base.proofs.Names.{inl, inr, ap, insert, ◌==◌, option_map_or, nat_cmp, IsPartitionPoint, IsPartitionedBy, IsNonDecreasingBy, map-set_same, cases_lt, lt-ltb, le-ltb, ltb-true, ltb-false}
+use Rattle.hn_base.proofs.Names.{ne_eqb, eqb-true, eqb-false, get_or-map, length-map, map-append, take-map, length-insert, All-append, All-cons, All-filter, All-nil, All-set, All-take, position-Some}
+use Rattle.hn_base.proofs.Names.{IsPartitionedBy-ltb, length-filter, count_by-le-length, below_from_sorted}
+use Rattle.hn_own.proofs.Names.{nat_lt, EpId, hashed, Port, filter-front, filter-back, number, ArePorts, is_port, is_attached, heard_at}
+use Rattle.std.proofs.Common.{length-set}
+use Rattle.std.specs.Prelude.{position, Option, None}
+use Rattle.std.specs.List.Sorted.{IsStrictlySortedBy}
+use Rattle.std.proofs.lemmas.List.{drop-map}
+use Rattle.std.proofs.lemmas.List.Edits.{get_or-insert_below, get_or-insert_at, get_or-insert_above}
+use Rattle.std.proofs.lemmas.List.Elements.{All-drop}
+use Rattle.std.proofs.lemmas.Map.Keys.{sorted_from_strictly_increasing}
 use Rattle.hn_base.specs.declared.ids.NodeId.{NodeId}
-use Rattle.hn_dncp.specs.Hash.{hashed}
-use Rattle.hn_dncp.specs.declared.port.Port.{Port}
 use Rattle.hn_base.proofs.AscendingNumbers.{ascending-filter}
 use Rattle.hn_base.proofs.PassingElements.{map-one, none_passes}
-use Rattle.hn_base.proofs.FrontOfList.{filter-front, filter-back, find-at, find-none}
-use Rattle.hn_own.specs.Ports.{number, ArePorts, is_port, port_at, is_attached, put_port, heard_at, attached}
+use Rattle.hn_base.proofs.FrontOfList.{find-at, find-none}
+use Rattle.hn_own.specs.Ports.{port_at, put_port, attached}
 
 -- an endpoint has a number of 4 bytes other than 0
 abbrev pub IsNumber : Port → Type 0

@@ -1,25 +1,14 @@
 -- A router's posts ascend, and are few. What it holds for other posts than that of a private link is as before.
-use Rattle.std.proofs.Common.{◌≡◌, ◌≤◌, ◌<◌, ◌^◌, ℕ, Bool, not, List, [], ◌∷◌, length, map, Option, None, Some, refl, sym, arith}
-use Rattle.std.specs.Prelude.{All, ◌==◌}
-use Rattle.std.specs.declared.cmp.Ordering.TheVariants.{Less}
-use Rattle.std.specs.List.{AllByRecursion}
+use Rattle.hn_base.proofs.Names.{◌≡◌, ◌≤◌, ◌<◌, ◌^◌, ℕ, Bool, not, List, [], ◌∷◌, length, map, Option, None, Some, refl, sym, arith, All, ◌==◌, Less, AllByRecursion, nat_cmp_is, on, nat_cmp}
+use Rattle.hn_base.proofs.Names.{length-map, All-filter, All-head, All-tail, IsStrictlySortedBy-filter, length-filter, count_by-le-length}
+use Rattle.hn_own.proofs.Names.{EpId, Assigned, Held, HasOwnPriority, Port, without_private, number, ArePorts}
 use Rattle.std.specs.List.Sorted.{IsStrictlySortedBy}
-use Rattle.std.specs.Cmp.{nat_cmp_is}
-use Rattle.std.specs.Ordering.{on, nat_cmp}
-use Rattle.std.proofs.lemmas.List.{length-map}
-use Rattle.std.proofs.lemmas.List.Elements.{All-filter, All-head, All-tail}
-use Rattle.std.proofs.lemmas.List.Kept.{IsStrictlySortedBy-filter}
-use Rattle.std.proofs.lemmas.List.Sums.{length-filter, count_by-le-length}
-use Rattle.hn_base.specs.declared.ids.EpId.{EpId}
 use Rattle.hn_base.proofs.AscendingLists.{sorted_parts}
-use Rattle.hn_assign.specs.declared.assigned.Assigned.{Assigned}
 use Rattle.hn_assign.specs.declared.backoff.Backoff.{Backoff}
-use Rattle.hn_assign.specs.declared.held.Held.{Held}
-use Rattle.hn_assign.specs.Facts.{IsInDelegated, HasOwnPriority}
+use Rattle.hn_assign.specs.Facts.{IsInDelegated}
 use Rattle.hn_assign.specs.Pair.{pair_cmp, assigned_pair, backoff_pair}
-use Rattle.hn_dncp.specs.declared.port.Port.{Port}
-use Rattle.hn_own.specs.HeldPairs.{AreHeldPairs, without_private}
-use Rattle.hn_own.specs.Ports.{number, ArePorts, endpoints_of}
+use Rattle.hn_own.specs.HeldPairs.{AreHeldPairs}
+use Rattle.hn_own.specs.Ports.{endpoints_of}
 use Rattle.hn_own.specs.Posts.{posts_of}
 
 -- the numbers of the endpoints are those of the list

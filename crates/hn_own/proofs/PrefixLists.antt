@@ -1,19 +1,10 @@
 -- A router's own delegated prefixes, when one is put or taken out.
-use Rattle.std.proofs.Common.{◌≡◌, ◌<◌, ◌≤◌, ℕ, Bool, true, false, not, Ordering, List, [], ◌∷◌, length, filter, take, drop, get_or, refl, sym, ap, ◌∙◌, inl, inr, rules, arith}
-use Rattle.std.specs.Prelude.{insert, ◌==◌, ◌&&◌}
-use Rattle.std.specs.declared.cmp.Ordering.TheVariants.{Less, Equal, Greater}
-use Rattle.std.specs.Cmp.{IsTotalOrder}
-use Rattle.std.specs.Cmp.Rules.{comparing}
-use Rattle.std.specs.Ordering.{on, is_eq, match_ordering, ordering_reverse}
-use Rattle.std.specs.List.{list_any}
-use Rattle.std.specs.List.Sorted.{IsStrictlySortedBy, IsPartitionPoint, IsPartitionedBy}
-use Rattle.std.proofs.lemmas.Bool.{cases_lt, not-true, or_parts}
-use Rattle.std.proofs.lemmas.List.Elements.{filter_passes}
-use Rattle.std.proofs.lemmas.Map.Keys.{Less-from_sorted}
-use Rattle.hn_base.proofs.FrontOfList.{filter-front, filter-back}
-use Rattle.hn_base.specs.Prefix.{PlainPrefix, prefix_cmp}
-use Rattle.hn_own.specs.declared.own_prefixes.OwnPrefix.{OwnPrefix}
-use Rattle.hn_own.specs.OwnPrefixes.{AreOwnPrefixes, is_prefix, is_before, delegated_with, delegated_without}
+use Rattle.hn_base.proofs.Names.{◌≡◌, ◌<◌, ◌≤◌, ℕ, Bool, true, false, not, Ordering, List, [], ◌∷◌, length, filter, take, drop, get_or, refl, sym, ap, ◌∙◌, inl, inr, rules, arith, insert, ◌==◌, ◌&&◌}
+use Rattle.hn_base.proofs.Names.{Less, Equal, Greater, IsTotalOrder, comparing, on, is_eq, ordering_reverse, list_any, IsPartitionPoint, IsPartitionedBy, cases_lt, not-true, or_parts, filter_passes}
+use Rattle.hn_base.proofs.Names.{Less-from_sorted, PlainPrefix, prefix_cmp}
+use Rattle.hn_own.proofs.Names.{filter-front, filter-back, OwnPrefix, AreOwnPrefixes, is_prefix, is_before, delegated_with, delegated_without}
+use Rattle.std.specs.Ordering.{match_ordering}
+use Rattle.std.specs.List.Sorted.{IsStrictlySortedBy}
 
 -- their order
 abbrev pub own_cmp : OwnPrefix → OwnPrefix → Ordering

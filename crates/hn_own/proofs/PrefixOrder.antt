@@ -1,20 +1,11 @@
 -- A router's own delegated prefixes stay in ascending order and few when one is added and when some go.
-use Rattle.std.proofs.Common.{◌≡◌, ◌≤◌, ◌+◌, ◌∙◌, suc, Bool, true, false, List, ◌∷◌, length, filter, refl, sym, inl, inr, arith, length-append}
-use Rattle.std.specs.Prelude.{All, ◌==◌, ◌&&◌, nat_lt}
-use Rattle.std.specs.declared.cmp.Ordering.TheVariants.{Less, Equal}
-use Rattle.std.specs.List.Sorted.{IsStrictlySortedBy}
-use Rattle.std.proofs.lemmas.Bool.{ltb-true, or_cases}
-use Rattle.std.proofs.lemmas.Cmp.{on_total}
-use Rattle.std.proofs.lemmas.List.Elements.{All-weaker, filter_passes, recursion_from_All}
-use Rattle.std.proofs.lemmas.List.Kept.{IsStrictlySortedBy-filter}
-use Rattle.std.proofs.lemmas.List.Sums.{length-filter, count_by-le-length}
-use Rattle.hn_base.proofs.AscendingLists.{equal_from_is_eq}
+use Rattle.hn_base.proofs.Names.{◌≡◌, ◌≤◌, ◌+◌, ◌∙◌, suc, Bool, true, false, List, ◌∷◌, length, filter, refl, sym, inl, inr, arith, length-append, All, ◌==◌, ◌&&◌, Less, Equal, IsStrictlySortedBy}
+use Rattle.hn_base.proofs.Names.{ltb-true, or_cases, on_total, All-weaker, filter_passes, recursion_from_All, IsStrictlySortedBy-filter, length-filter, count_by-le-length, PlainPrefix, prefix_cmp}
+use Rattle.hn_own.proofs.Names.{nat_lt, equal_from_is_eq, OwnPrefix, AreOwnPrefixes, is_prefix, is_before, delegated_with}
 use Rattle.hn_base.proofs.BelowAndAbove.{few_apart, fewer_apart, sorted_around}
 use Rattle.hn_base.proofs.Prefixes.{prefix_total}
-use Rattle.hn_base.specs.Prefix.{PlainPrefix, prefix_cmp}
-use Rattle.hn_own.specs.declared.own_prefixes.OwnPrefix.{OwnPrefix}
 use Rattle.hn_own.proofs.PrefixLists.{own_cmp, is_prefix-cmp, is_before-less}
-use Rattle.hn_own.specs.OwnPrefixes.{AreOwnPrefixes, is_prefix, is_delegated, may_delegate, is_before, delegated_with}
+use Rattle.hn_own.specs.OwnPrefixes.{is_delegated, may_delegate}
 
 -- ---- some of them
 

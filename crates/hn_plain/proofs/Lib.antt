@@ -1,3 +1,4 @@
+mod Names
 mod PlainLaws
 mod WhatIsBest
 mod WhatIsSaid

@@ -1,13 +1,10 @@
 -- The laws of the crates below on which it rests that the plain definitions are the same.
-use Rattle.std.proofs.Common.{◌↔◌, ◌≤◌}
-use Rattle.std.specs.Cmp.{IsTotalOrder}
-use Rattle.hn_base.specs.Ascending.{IsExact}
-use Rattle.hn_base.specs.Prefix.{PlainPrefix, IsPrefix, IsWithin, Overlaps, last_address}
+use Rattle.hn_base.proofs.Names.{◌↔◌, ◌≤◌, IsTotalOrder, IsExact, PlainPrefix, IsPrefix, IsWithin, Overlaps, last_address}
+use Rattle.hn_plain.proofs.Names.{pair_cmp}
 use Rattle.hn_typed.specs.Laws.{ItemIsUnique, ItemHasNoFault, ItemOrFault}
 use Rattle.hn_deleg.specs.Candidates.{PreferredIsAnnounced}
 use Rattle.hn_deleg.specs.Laws.{UsableExists, UsableIsUnique, UsableArePrefixes}
 use Rattle.hn_assign.specs.Laws.{AdvertisedExists, BestIsUnique}
-use Rattle.hn_assign.specs.Pair.{pair_cmp}
 use Rattle.hn_rules.specs.Laws.{ViewIsNetwork, EntriesAreAsKnown, WishesExist}
 
 -- of node data and of what a router sees

@@ -1,39 +1,19 @@
 -- The same routers are at rest.
-use Rattle.std.proofs.Common.{◌≡◌, ◌∙◌, ◌⊎◌, ◌<◌, ℕ, List, Option, Some, None, Contains, IsSome, is_some, inl, inr, refl, sym, ap, subst, arith}
-use Rattle.std.specs.Prelude.{All}
-use Rattle.std.specs.List.{slice_get}
-use Rattle.std.proofs.lemmas.Bool.{cases_lt, cases_eq}
-use Rattle.std.proofs.lemmas.List.Elements.{All-contains}
-use Rattle.std.proofs.lemmas.Option.{same_Some}
-use Rattle.hn_base.proofs.AscendingLists.{Contains-map}
-use Rattle.hn_base.proofs.Elements.{all_of}
+use Rattle.hn_base.proofs.Names.{◌≡◌, ◌∙◌, ◌⊎◌, ◌<◌, ℕ, List, Option, Some, None, Contains, IsSome, is_some, inl, inr, refl, sym, ap, subst, arith, All, cases_lt, cases_eq, All-contains, same_Some}
+use Rattle.hn_base.proofs.Names.{HasAt, IsAbove, PlainPrefix, IsPrefix}
+use Rattle.hn_plain.proofs.Names.{slice_get, Contains-map, all_of, contains_at, one_of_ascending, part_stands, Decided, one_or_none, EpId, Delegated, AreUsable, IsUnwanted, prefixes_of, HasNoFree}
+use Rattle.hn_plain.proofs.Names.{AreAdvertised, assigned_pair, pair_cmp, Advertised, Assigned, IsRouter, seen_by, State, HasAssignment}
 use Rattle.hn_base.proofs.AtKey.{has_some}
-use Rattle.hn_base.proofs.PartsAtPlaces.{contains_at, one_of_ascending, part_stands}
-use Rattle.hn_base.proofs.SoOrNot.{Decided, one_or_none}
-use Rattle.hn_base.specs.Ascending.{HasAt}
-use Rattle.hn_base.specs.Key.{IsAbove}
-use Rattle.hn_base.specs.Prefix.{PlainPrefix, IsPrefix}
-use Rattle.hn_base.specs.declared.ids.EpId.{EpId}
-use Rattle.hn_deleg.specs.declared.delegated.Delegated.{Delegated}
-use Rattle.hn_deleg.specs.Used.{AreUsable, IsUnwanted, prefixes_of}
 use Rattle.hn_assign.specs.Advertised.{key_of}
-use Rattle.hn_assign.specs.Best.{HasNoFree}
 use Rattle.hn_assign.specs.Facts.{HasOwnPriority}
 use Rattle.hn_assign.specs.Fixed.{IsWishAtRest}
-use Rattle.hn_assign.specs.Gathered.{AreAdvertised}
-use Rattle.hn_assign.specs.Pair.{IsWished, assigned_pair, pair_cmp, wish_pair}
+use Rattle.hn_assign.specs.Pair.{IsWished, wish_pair}
 use Rattle.hn_assign.specs.Rest.{IsIdle, IsAtRest}
-use Rattle.hn_assign.specs.declared.assigned.Advertised.{Advertised}
-use Rattle.hn_assign.specs.declared.assigned.Assigned.{Assigned}
 use Rattle.hn_assign.specs.declared.assigned.Wish.{Wish}
 use Rattle.hn_assign.specs.declared.pair.Pair.{Pair}
 use Rattle.hn_own.specs.Posts.{posts_of}
 use Rattle.hn_rules.specs.Assigning.{IsWishFor, AreAsked}
-use Rattle.hn_rules.specs.Router.{IsRouter}
-use Rattle.hn_rules.specs.Seen.{seen_by}
-use Rattle.hn_rules.specs.declared.state.State.{State}
 use Rattle.hn_audit.specs.Quiet.{IsRouterAtRest}
-use Rattle.hn_audit.specs.Sound.{HasAssignment}
 use Rattle.hn_plain.specs.Plain as plain
 use Rattle.hn_plain.specs.Same.{RestsAlike}
 use Rattle.hn_plain.proofs.PlainLaws.{PlainLaws}

@@ -1,24 +1,17 @@
 -- The same settled routers are sound.
-use Rattle.std.proofs.Common.{◌≡◌, ◌≢◌, ◌∙◌, ◌⊎◌, List, IsSome, inl, inr, refl, sym, subst}
+use Rattle.hn_base.proofs.Names.{◌≡◌, ◌≢◌, ◌∙◌, ◌⊎◌, List, IsSome, inl, inr, refl, sym, subst, PlainPrefix, Overlaps}
+use Rattle.hn_plain.proofs.Names.{one_of_ascending, EpId, assigned_pair, pair_cmp, Assigned, IsReplayed, WorldIsSound, Member, Parts, IsReached, IsSettled, HasAssignment, Uses, SettledAlike}
+use Rattle.hn_plain.proofs.Names.{QuietAlike}
 use Rattle.hn_base.proofs.Keys.{id_is_found, found_is_id}
-use Rattle.hn_base.proofs.PartsAtPlaces.{one_of_ascending}
-use Rattle.hn_base.specs.Prefix.{PlainPrefix, Overlaps}
-use Rattle.hn_base.specs.declared.ids.EpId.{EpId}
 use Rattle.hn_base.specs.declared.version.Version.{Version}
 use Rattle.hn_dncp.specs.declared.port.Port.{Port}
-use Rattle.hn_assign.specs.Pair.{assigned_pair, pair_cmp}
-use Rattle.hn_assign.specs.declared.assigned.Assigned.{Assigned}
-use Rattle.hn_world.specs.Replay.{IsReplayed, Replays}
-use Rattle.hn_world.specs.Laws.{WorldHasItsTrace, WorldHasItsVersion, WorldIsSound}
+use Rattle.hn_world.specs.Replay.{Replays}
+use Rattle.hn_world.specs.Laws.{WorldHasItsTrace, WorldHasItsVersion}
 use Rattle.hn_world.specs.declared.event.Traced.{Traced}
-use Rattle.hn_world.specs.declared.member.Member.{Member}
-use Rattle.hn_world.specs.declared.parts.Parts.{Parts}
 use Rattle.hn_audit.specs.Laws.{ElectAlike, ReplayedElectAlike, AlwaysSettledAreSound}
-use Rattle.hn_audit.specs.Reached.{IsReached}
-use Rattle.hn_audit.specs.Settled.{IsSettled}
-use Rattle.hn_audit.specs.Sound.{Link, Joint, Private, IsPostOn, IsThere, HasAssignment, IsServedLink, IsWithout, IsHeldOn, IsSound, Uses}
+use Rattle.hn_audit.specs.Sound.{Link, Joint, Private, IsPostOn, IsThere, IsServedLink, IsWithout, IsHeldOn, IsSound}
 use Rattle.hn_plain.specs.Plain as plain
-use Rattle.hn_plain.specs.Same.{SettledAlike, QuietAlike, SoundAlike, AlwaysPlainlySound}
+use Rattle.hn_plain.specs.Same.{SoundAlike, AlwaysPlainlySound}
 use Rattle.hn_plain.proofs.PlainLaws.{PlainLaws}
 use Rattle.hn_plain.proofs.WhatIsSeen.{sees_the_same_free}
 use Rattle.hn_plain.proofs.WhatIsUsed.{uses_the_same, wants_the_same}

@@ -1,8 +1,6 @@
 -- The first free prefix from the place of a free one is that one.
-use Rattle.std.proofs.Common.{◌≡◌, ℕ, zero, suc, ◌+◌, ◌%◌, ◌<◌, arith, ap, ◌∙◌, subst, List}
-use Rattle.std.proofs.Math.Nat.{mod-eq_of_lt}
-use Rattle.hn_base.specs.Prefix.{PlainPrefix}
-use Rattle.hn_prefix.specs.Free.{sub_prefix, sub_prefix_count, sub_prefix_after, IsFree, IsTakenPrefix}
+use Rattle.hn_base.proofs.Names.{◌≡◌, ℕ, zero, suc, ◌+◌, ◌%◌, ◌<◌, arith, ap, ◌∙◌, subst, List, mod-eq_of_lt, PlainPrefix}
+use Rattle.hn_prefix.proofs.Names.{sub_prefix, sub_prefix_count, sub_prefix_after, IsFree, IsTakenPrefix}
 use Rattle.hn_prefix.specs.Laws.{PlaceIsFirst}
 use Rattle.hn_prefix.proofs.PlaceAfterStart.{not_both}
 

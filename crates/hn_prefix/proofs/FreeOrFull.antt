@@ -1,10 +1,6 @@
 -- There is a first free prefix, or each is taken.
-use Rattle.std.proofs.Common.{ℕ, List, get_or, Option, None, Some, refl}
-use Rattle.std.proofs.Math.Nat.{le_refl}
-use Rattle.std.proofs.lemmas.List.Elements.{Contains-get_or}
-use Rattle.hn_base.specs.Prefix.{PlainPrefix}
-use Rattle.hn_base.specs.Exists.{Some! }
-use Rattle.hn_prefix.specs.Free.{sub_prefix_count, sub_prefix_after, IsFree, IsTakenPrefix}
+use Rattle.hn_base.proofs.Names.{ℕ, List, get_or, Option, None, Some, refl, le_refl, Contains-get_or, PlainPrefix, Some! }
+use Rattle.hn_prefix.proofs.Names.{sub_prefix_count, sub_prefix_after, IsFree, IsTakenPrefix}
 use Rattle.hn_prefix.specs.Laws.{FreeOrFull, IsFirstFreeIfAny}
 use Rattle.hn_prefix.proofs.PlaceAfterStart.{whole_round}
 use Rattle.hn_base.proofs.SomeExists.{IsFirstIfAny, some_then, some_first}

@@ -1,8 +1,7 @@
 -- Where the first `::` stands.
-use Rattle.std.proofs.Common.{◌≡◌, ◌≢◌, ℕ, ◌+◌, ◌-◌, ◌<◌, List, [], ◌∷◌, ◌++◌, length, get_or, take, drop, sym, ap, subst, ◌∙◌, append_assoc, arith}
-use Rattle.std.proofs.lemmas.List.{take_more}
+use Rattle.hn_base.proofs.Names.{◌≡◌, ◌≢◌, ℕ, ◌+◌, ◌-◌, ◌<◌, List, [], ◌∷◌, ◌++◌, length, get_or, take, drop, sym, ap, subst, ◌∙◌, append_assoc, arith, take_more}
+use Rattle.hn_prefix.proofs.Names.{HasNoGap, SplitsAtGap}
 use Rattle.hn_base.proofs.SplitLemmas.{around}
-use Rattle.hn_prefix.specs.Gap.{HasNoGap, SplitsAtGap}
 
 HasNoGap-push : (xs : List ℕ) (c d : ℕ) → (c ≡ 58 → d ≢ 58) → HasNoGap (xs ++ c ∷ []) → HasNoGap (xs ++ c ∷ d ∷ [])
 HasNoGap-push [] c d ne h = (ne, tt)

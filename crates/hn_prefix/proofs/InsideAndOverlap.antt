@@ -1,10 +1,9 @@
 -- The addresses inside a prefix are a range; one prefix is within another, or overlaps it, where their ranges are or do.
-use Rattle.std.proofs.Common.{◌≡◌, ℕ, ◌+◌, ◌-◌, ◌*◌, ◌/◌, ◌%◌, ◌^◌, ◌<◌, ◌≤◌, ◌↔◌, ◌⊎◌, inl, inr, refl, arith, ap, ◌∙◌, sym}
-use Rattle.std.proofs.Math.Nat.{le_refl, div-add-mod, div-eq_of_lt-le}
-use Rattle.std.proofs.lemmas.Nat.{pow_below, pow_pos, pow-add, mul-le, shr_below}
-use Rattle.std.proofs.lemmas.Bool.{cases_lt}
+use Rattle.hn_base.proofs.Names.{◌≡◌, ℕ, ◌+◌, ◌-◌, ◌*◌, ◌/◌, ◌%◌, ◌^◌, ◌<◌, ◌≤◌, ◌↔◌, ◌⊎◌, inl, inr, refl, arith, ap, ◌∙◌, sym, le_refl, div-add-mod, pow_below, pow_pos, pow-add, mul-le, cases_lt}
+use Rattle.hn_base.proofs.Names.{PlainPrefix, IsPrefix, IsInside, IsWithin, Overlaps, last_address}
+use Rattle.std.proofs.Math.Nat.{div-eq_of_lt-le}
+use Rattle.std.proofs.lemmas.Nat.{shr_below}
 use Rattle.hn_base.proofs.LeadingBits.{alike_in_shorter}
-use Rattle.hn_base.specs.Prefix.{PlainPrefix, IsPrefix, IsInside, IsWithin, Overlaps, last_address}
 
 -- a number in one block with a multiple of the blocks' size is not below the multiple, nor a size above it
 from_same_block : (a b size : ℕ) → b % size ≡ 0 → a / size ≡ b / size → 0 < size → (b ≤ a) × (a < b + size)

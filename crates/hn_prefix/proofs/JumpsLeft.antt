@@ -1,12 +1,10 @@
 -- How many jumps past taken prefixes are still to come: at most two for each taken prefix, and fewer after each jump.
-use Rattle.std.proofs.Common.{◌≡◌, ℕ, ◌+◌, ◌-◌, ◌*◌, ◌%◌, ◌<◌, ◌≤◌, inl, inr, List, length, get_or, cond, arith, ap, ◌∙◌}
-use Rattle.std.specs.Prelude.{count_by, sum_by, nat_lt, Contains, remove}
-use Rattle.std.proofs.Math.Nat.{mod-eq_of_lt, add-mod_left}
-use Rattle.std.proofs.lemmas.Bool.{cases_lt}
-use Rattle.std.proofs.lemmas.Bool.Decides.{nat_tests}
-use Rattle.std.proofs.lemmas.List.Sums.{sum_by-le-sum_by, sum_by-remove, count_by-le-length}
-use Rattle.hn_base.specs.Prefix.{PlainPrefix, last_address}
-use Rattle.hn_prefix.specs.Free.{sub_prefix_count, next_place}
+use Rattle.hn_base.proofs.Names.{◌≡◌, ℕ, ◌+◌, ◌-◌, ◌*◌, ◌%◌, ◌<◌, ◌≤◌, inl, inr, List, length, get_or, cond, arith, ap, ◌∙◌, remove, mod-eq_of_lt, cases_lt, nat_tests, count_by-le-length, PlainPrefix}
+use Rattle.hn_base.proofs.Names.{last_address}
+use Rattle.hn_prefix.proofs.Names.{Contains, sub_prefix_count, next_place}
+use Rattle.std.specs.Prelude.{count_by, sum_by, nat_lt}
+use Rattle.std.proofs.Math.Nat.{add-mod_left}
+use Rattle.std.proofs.lemmas.List.Sums.{sum_by-le-sum_by, sum_by-remove}
 
 -- how many taken prefixes reach beyond a place
 abbrev pub reaching : PlainPrefix → List PlainPrefix → ℕ → ℕ → ℕ

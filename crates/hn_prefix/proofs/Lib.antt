@@ -1,3 +1,4 @@
+mod Names
 mod InsideAndOverlap
 mod FreeOrFull
 mod GapLemmas

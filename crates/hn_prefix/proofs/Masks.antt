@@ -1,8 +1,7 @@
 -- Masks of ones, and an address without the bits of one.
-use Rattle.std.proofs.Common.{◌≡◌, ℕ, ◌+◌, ◌-◌, ◌*◌, ◌/◌, ◌^◌, ◌%◌, ◌<◌, ◌≤◌, bit_and, arith, ap, ◌∙◌}
+use Rattle.hn_base.proofs.Names.{◌≡◌, ℕ, ◌+◌, ◌-◌, ◌*◌, ◌/◌, ◌^◌, ◌%◌, ◌<◌, ◌≤◌, bit_and, arith, ap, ◌∙◌, mod-add-div', IsPrefix, prefix_containing}
 use Rattle.std.proofs.lemmas.Nat.{and_mask}
-use Rattle.std.proofs.Math.Nat.{mul-mod_left, mod-add-div'}
-use Rattle.hn_base.specs.Prefix.{IsPrefix, prefix_containing}
+use Rattle.std.proofs.Math.Nat.{mul-mod_left}
 
 -- a mask of k ones keeps what is left by a division by 2 ^ k
 pub and_host_mask : (bits mask k : ℕ) → mask + 1 ≡ 2 ^ k → bit_and bits mask ≡ bits % 2 ^ k

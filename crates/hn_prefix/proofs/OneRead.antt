@@ -1,11 +1,6 @@
 -- A text is a read form of one address at most, and of one prefix.
-use Rattle.std.proofs.Common.{◌≡◌, ℕ, List, [], ◌∷◌, length, sym, ap, subst, ◌∙◌, inl, inr, arith}
-use Rattle.hn_base.specs.Splits.{SplitsAt}
-use Rattle.hn_base.proofs.NumeralLemmas.{same_number}
-use Rattle.hn_base.proofs.SplitLemmas.{same_split, no_split}
-use Rattle.hn_prefix.specs.AddressText.{IsGroups, IsGroupsText, IsAddressText, address_of_groups}
-use Rattle.hn_base.specs.Prefix.{PlainPrefix}
-use Rattle.hn_prefix.specs.PrefixText.{IsPrefixText}
+use Rattle.hn_base.proofs.Names.{◌≡◌, ℕ, List, [], ◌∷◌, length, sym, ap, subst, ◌∙◌, inl, inr, arith, SplitsAt, PlainPrefix}
+use Rattle.hn_prefix.proofs.Names.{same_number, same_split, no_split, IsGroups, IsGroupsText, IsAddressText, address_of_groups, IsPrefixText}
 use Rattle.hn_prefix.proofs.ReadLemmas.{HasNoGap-front, Lacks-group, empty_groups, groups_no_gap, elided, without_gap, with_gap, prefix_parts, address_lacks_slash, plain_prefix}
 
 same_groups : (text gs hs : List ℕ) → IsGroups text gs → IsGroups text hs → gs ≡ hs

@@ -1,11 +1,9 @@
 -- The place so far after a start, in cyclic order, and that each place before it is taken.
-use Rattle.std.proofs.Common.{◌≡◌, ℕ, ◌+◌, ◌-◌, ◌*◌, ◌/◌, ◌%◌, ◌<◌, ◌≤◌, arith, ap, ◌∙◌, sym, subst, inl, inr, List}
-use Rattle.std.proofs.Math.Nat.{div-add-mod, mod-add-mod, add-mod-mod}
-use Rattle.std.proofs.lemmas.Nat.{mod-mul-add, mod_below}
-use Rattle.std.proofs.lemmas.Bool.{cases_lt}
-use Rattle.std.specs.Prelude.{Contains}
-use Rattle.hn_base.specs.Prefix.{PlainPrefix, IsPrefix, Overlaps, last_address}
-use Rattle.hn_prefix.specs.Free.{sub_prefix, sub_prefix_count, sub_prefix_after, next_place, IsFree, IsTakenPrefix, IsFull}
+use Rattle.hn_base.proofs.Names.{◌≡◌, ℕ, ◌+◌, ◌-◌, ◌*◌, ◌/◌, ◌%◌, ◌<◌, ◌≤◌, arith, ap, ◌∙◌, sym, subst, inl, inr, List, div-add-mod, mod_below, cases_lt, PlainPrefix, IsPrefix, Overlaps, last_address}
+use Rattle.hn_prefix.proofs.Names.{Contains, sub_prefix, sub_prefix_count, sub_prefix_after, next_place, IsFree, IsTakenPrefix}
+use Rattle.std.proofs.Math.Nat.{mod-add-mod, add-mod-mod}
+use Rattle.std.proofs.lemmas.Nat.{mod-mul-add}
+use Rattle.hn_prefix.specs.Free.{IsFull}
 use Rattle.hn_prefix.proofs.SubPrefixAtPlace.{IsPlace, Blocks, overlaps_between}
 
 -- the place that the code computes is the one so far after the start

@@ -1,15 +1,10 @@
 -- Texts of groups, and where they are cut.
-use Rattle.std.proofs.Common.{◌≡◌, ℕ, ◌+◌, ◌-◌, ◌<◌, ◌≤◌, List, [], ◌∷◌, ◌++◌, length, replicate, refl, sym, ap, subst, ◌∙◌, inl, inr, append_assoc, length-append, arith}
-use Rattle.std.specs.Prelude.{codes}
-use Rattle.std.specs.Char.{digit_value}
-use Rattle.hn_base.specs.Numeral.{IsShortNumeral}
-use Rattle.hn_base.specs.Splits.{Lacks, SplitsAt}
-use Rattle.hn_base.proofs.NumeralLemmas.{Lacks-digits, same_number}
-use Rattle.hn_base.proofs.SplitLemmas.{Lacks-append, same_split, no_split}
-use Rattle.hn_prefix.specs.Gap.{HasNoGap, SplitsAtGap}
-use Rattle.hn_prefix.specs.AddressText.{IsGroupText, IsGroups, IsGroupsText, IsAddressText}
-use Rattle.hn_base.specs.Prefix.{PlainPrefix}
-use Rattle.hn_prefix.specs.PrefixText.{IsPrefixText}
+use Rattle.hn_base.proofs.Names.{◌≡◌, ℕ, ◌+◌, ◌-◌, ◌<◌, ◌≤◌, List, [], ◌∷◌, ◌++◌, length, replicate, refl, sym, ap, subst, ◌∙◌, inl, inr, append_assoc, length-append, arith, digit_value}
+use Rattle.hn_base.proofs.Names.{IsShortNumeral, Lacks, SplitsAt, PlainPrefix}
+use Rattle.hn_prefix.proofs.Names.{codes, same_number, same_split, no_split, HasNoGap, SplitsAtGap, IsGroups, IsGroupsText, IsAddressText, IsPrefixText}
+use Rattle.hn_base.proofs.NumeralLemmas.{Lacks-digits}
+use Rattle.hn_base.proofs.SplitLemmas.{Lacks-append}
+use Rattle.hn_prefix.specs.AddressText.{IsGroupText}
 
 -- ---- the cut at the first `::`
 

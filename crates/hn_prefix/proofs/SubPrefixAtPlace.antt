@@ -1,9 +1,10 @@
 -- The sub-prefix at a place: it is a prefix within the outer one, and what overlaps it leads to a later place.
-use Rattle.std.proofs.Common.{◌≡◌, ℕ, ◌+◌, ◌-◌, ◌*◌, ◌/◌, ◌%◌, ◌^◌, ◌<◌, ◌≤◌, ◌↔◌, refl, arith, ap, ◌∙◌, sym, subst}
-use Rattle.std.proofs.Math.Nat.{le_refl, div-add-mod, div-mul-le_self, add-mul-mod_self_right}
-use Rattle.std.proofs.lemmas.Nat.{pow_pos, pow-add, mul-le, mod-pow-add, le-div, shl-shr}
-use Rattle.hn_base.specs.Prefix.{PlainPrefix, IsPrefix, IsWithin, Overlaps, last_address}
-use Rattle.hn_prefix.specs.Free.{sub_prefix, sub_prefix_count, next_place, IsSubPrefix, IsPrefixInside}
+use Rattle.hn_base.proofs.Names.{◌≡◌, ℕ, ◌+◌, ◌-◌, ◌*◌, ◌/◌, ◌%◌, ◌^◌, ◌<◌, ◌≤◌, ◌↔◌, refl, arith, ap, ◌∙◌, sym, subst, le_refl, div-add-mod, pow_pos, pow-add, mul-le, mod-pow-add, PlainPrefix}
+use Rattle.hn_base.proofs.Names.{IsPrefix, IsWithin, Overlaps, last_address}
+use Rattle.hn_prefix.proofs.Names.{sub_prefix, sub_prefix_count, next_place}
+use Rattle.std.proofs.Math.Nat.{div-mul-le_self, add-mul-mod_self_right}
+use Rattle.std.proofs.lemmas.Nat.{le-div, shl-shr}
+use Rattle.hn_prefix.specs.Free.{IsSubPrefix, IsPrefixInside}
 use Rattle.hn_prefix.proofs.InsideAndOverlap.{block_fits, within_range, overlap_range}
 
 -- the place of a sub-prefix

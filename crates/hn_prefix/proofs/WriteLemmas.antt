@@ -1,28 +1,20 @@
 -- The written form: which run it shortens, how long it is, and that it is a read form.
-use Rattle.std.proofs.Common.{◌≡◌, ℕ, ◌+◌, ◌-◌, ◌*◌, ◌/◌, ◌%◌, ◌^◌, ◌<◌, ◌≤◌, List, [], ◌∷◌, ◌++◌, Option, None, Some, length, take, drop, refl, sym, ap, subst, ◌∙◌, inl, inr, length-append}
-use Rattle.std.proofs.Common.{length-drop, take-append-drop, take-add, arith}
-use Rattle.std.specs.Prelude.{codes}
-use Rattle.std.specs.Char.{digit_char}
-use Rattle.std.specs.Fmt.{decimal}
-use Rattle.std.specs.Int.{w128, to_be_bytes}
-use Rattle.std.specs.List.{AllByRecursion}
+use Rattle.hn_base.proofs.Names.{◌≡◌, ℕ, ◌+◌, ◌-◌, ◌*◌, ◌/◌, ◌%◌, ◌^◌, ◌<◌, ◌≤◌, List, [], ◌∷◌, ◌++◌, Option, None, Some, length, take, drop, refl, sym, ap, subst, ◌∙◌, inl, inr, length-append, arith}
+use Rattle.hn_base.proofs.Names.{digit_char, decimal, w128, to_be_bytes, AllByRecursion, cases_lt, lt-ltb, le-ltb, cond-true, cond-false, nat_tests, append-nil, length-take-le, numeral, PlainPrefix}
+use Rattle.hn_base.proofs.Names.{IsPrefix}
+use Rattle.hn_prefix.proofs.Names.{codes, address_of_groups, IsGroups, IsGroupsText, IsAddressText, IsPrefixText}
+use Rattle.std.proofs.Common.{length-drop, take-append-drop, take-add}
 use Rattle.std.specs.Net.Addr.{segments_of, ipv6_segments, IsIpv6OfBits}
 use Rattle.std.specs.Net.Text as std
 use Rattle.std.specs.Net.Text.{longest_zero_run, leading_zero_digits, hex, hex_groups_text, hex_groups_addr}
 use Rattle.std.specs.declared.net.display.HexGroups.{HexGroups}
 use Rattle.std.specs.declared.net.ipv6_addr.Ipv6Addr.{Ipv6Addr}
 use Rattle.std.proofs.NetLemmas.Texts.{IsZeroRun-longest_zero_run, longest_zero_run_first}
-use Rattle.std.proofs.lemmas.Bool.{cases_lt, lt-ltb, le-ltb, cond-true, cond-false}
-use Rattle.std.proofs.lemmas.Bool.Decides.{nat_tests}
-use Rattle.std.proofs.lemmas.List.{append-nil, length-take-le}
 use Rattle.std.proofs.Math.Nat.{div-div-eq-div-mul}
-use Rattle.hn_base.specs.Numeral.{numeral}
 use Rattle.hn_base.proofs.NumeralLemmas.{numeral_one, numeral_step, numeral_is_short, decimal_is_short}
 use Rattle.hn_base.proofs.EachByRecursion.{AllByRecursion-take, AllByRecursion-drop}
-use Rattle.hn_prefix.specs.AddressText.{groups, address_of_groups, group_text, groups_text, IsFirstLongestRun, shortened_text, IsZeroRun, IsWrittenForm, address_text_of, IsGroups, IsGroupsText}
-use Rattle.hn_prefix.specs.AddressText.{IsAddressText}
-use Rattle.hn_base.specs.Prefix.{PlainPrefix, IsPrefix}
-use Rattle.hn_prefix.specs.PrefixText.{prefix_text_of, text_of, IsPrefixText}
+use Rattle.hn_prefix.specs.AddressText.{groups, group_text, groups_text, IsFirstLongestRun, shortened_text, IsZeroRun, IsWrittenForm, address_text_of}
+use Rattle.hn_prefix.specs.PrefixText.{prefix_text_of, text_of}
 
 -- each group has 16 bits
 abbrev pub AllFit : List ℕ → Type 0

@@ -1,9 +1,8 @@
 -- Two advertisements of a sender are apart, and a solicitation is answered.
-use Rattle.std.proofs.Common.{◌≡◌, ◌≤◌, ◌+◌, ◌%◌, ℕ, Bool, true, false, List, [], ◌∷◌, ◌++◌, Option, None, Some, min, max, refl, arith}
-use Rattle.std.specs.Prelude.{All, IfSome, IsTrue, if◌then◌else◌}
-use Rattle.std.specs.Option.{option_map_or, option_to_list}
-use Rattle.std.proofs.lemmas.Grind.{common_steps}
-use Rattle.std.proofs.lemmas.List.Elements.{All-nil, All-cons, All-weaker}
+use Rattle.hn_base.proofs.Names.{◌≡◌, ◌≤◌, ◌+◌, ◌%◌, ℕ, Bool, true, false, List, [], ◌∷◌, ◌++◌, Option, None, Some, min, max, refl, arith, All, if◌then◌else◌, option_map_or, common_steps, All-nil}
+use Rattle.hn_base.proofs.Names.{All-cons, All-weaker}
+use Rattle.std.specs.Prelude.{IfSome, IsTrue}
+use Rattle.std.specs.Option.{option_to_list}
 use Rattle.hn_radv.specs.Sender.{PlainSender, draws, is_due, sent, solicited}
 use Rattle.hn_radv.specs.Runs.{AreSpaced, Call, Changed, Due, Solicit, run_of, sent_by_calls}
 

@@ -1,24 +1,11 @@
 -- Each event is a list of elementary changes, but for endpoints that come and go; what it gives has to fit.
-use Rattle.std.proofs.Common.{◌≡◌, ◌⊎◌, ℕ, false, List, [], ◌∷◌, Option, inl, inr, refl, sym, subst}
-use Rattle.hn_base.specs.declared.caps.Caps.{Caps}
-use Rattle.hn_base.specs.Prefix.{PlainPrefix}
-use Rattle.hn_base.specs.Rules.{Then}
-use Rattle.hn_tlv.specs.Grammar.{PlainTlv, IsTlvList}
-use Rattle.hn_rules.specs.declared.running.Running.{Running}
-use Rattle.hn_rules.specs.declared.running.Origin.{Origin}
+use Rattle.hn_base.proofs.Names.{◌≡◌, ◌⊎◌, ℕ, false, List, [], ◌∷◌, Option, inl, inr, refl, sym, subst, PlainPrefix, Then}
+use Rattle.hn_router.proofs.Names.{Caps, PlainTlv, IsTlvList, Running, Origin, IsArrival, IsAssigning, EachKeeps, delegating, withdrawing, ending, IsPrivateLength, setting_caps, setting_private}
+use Rattle.hn_router.proofs.Names.{setting_addresses, IsRestarting, IsRefresh, Rule, IsExpiry, forgetting, IsPortsTick, PlainEvent, Arrive, Tick, is_refused, IsEventInRange, IsEdit, IsEventRule}
+use Rattle.hn_router.proofs.Names.{IsEvent, IsTick}
 use Rattle.hn_rules.specs.declared.done.Note.TheVariants as note
-use Rattle.hn_rules.specs.Arrival.{IsArrival}
-use Rattle.hn_rules.specs.Assigning.{IsAssigning}
-use Rattle.hn_rules.specs.Changes.{Change, TakeNote, Leads, EachKeeps, change}
-use Rattle.hn_rules.specs.Delegating.{delegating, withdrawing, ending}
-use Rattle.hn_rules.specs.Given.{IsPrivateLength}
-use Rattle.hn_rules.specs.Events.{setting_caps, setting_private, setting_addresses, IsRestarting}
+use Rattle.hn_rules.specs.Changes.{Change, TakeNote, Leads, change}
 use Rattle.hn_rules.specs.Laws.{MakesChanges, DelegatingMakesChanges, AddressingMakesChanges}
-use Rattle.hn_rules.specs.Refresh.{IsRefresh}
-use Rattle.hn_rules.specs.Rules.{Rule}
-use Rattle.hn_rules.specs.Tick.{IsExpiry, forgetting, IsPortsTick}
-use Rattle.hn_router.specs.Act.{PlainEvent, Arrive, Tick, is_refused, IsEventInRange, IsEdit, IsEventRule, IsEvent}
-use Rattle.hn_rules.specs.Ticks.{IsTick}
 use Rattle.hn_router.proofs.Edits.{EndpointsKeep, GivenKeep, OthersKeep, edit_keeps}
 
 -- a rule keeps a fact

@@ -1,21 +1,11 @@
 -- What each edit keeps, the edit of an event keeps; and what it leaves as it is.
-use Rattle.std.proofs.Common.{◌≡◌, ◌≢◌, ◌∙◌, ◌<◌, ℕ, Bool, true, false, not, cond, List, [], ◌∷◌, map, filter, Option, ap, refl, sym, subst, arith}
-use Rattle.std.specs.Prelude.{length, nat_lt, nat_eq, ◌==◌, ◌||◌}
-use Rattle.std.specs.Option.{option_eq}
-use Rattle.std.proofs.lemmas.Bool.{or_parts, eqb-false, ltb-true, not-false, cond_both}
-use Rattle.hn_base.specs.declared.caps.Caps.{Caps}
-use Rattle.hn_base.specs.declared.ids.EpId.{EpId}
-use Rattle.hn_base.specs.Prefix.{PlainPrefix}
-use Rattle.hn_dncp.specs.declared.port.Port.{Port}
-use Rattle.hn_own.specs.Addresses.{OwnAddress, may_address}
+use Rattle.hn_base.proofs.Names.{◌≡◌, ◌≢◌, ◌∙◌, ◌<◌, ℕ, Bool, true, false, not, cond, List, [], ◌∷◌, map, filter, Option, ap, refl, sym, subst, arith, nat_eq, ◌==◌, ◌||◌, option_eq, or_parts}
+use Rattle.hn_base.proofs.Names.{eqb-false, ltb-true, not-false, cond_both, PlainPrefix}
+use Rattle.hn_router.proofs.Names.{length, nat_lt, Caps, EpId, Port, OwnAddress, is_attached, endpoints_of, Running, delegating, withdrawing, IsAttaching, detaching, setting_caps, setting_private}
+use Rattle.hn_router.proofs.Names.{setting_addresses, IsRestarting, words_of, PlainEvent, Attach, Restart, is_refused, IsEdit, endpoints_by}
+use Rattle.hn_own.specs.Addresses.{may_address}
 use Rattle.hn_own.specs.OwnPrefixes.{may_delegate}
-use Rattle.hn_own.specs.Ports.{is_attached, endpoints_of}
-use Rattle.hn_rules.specs.declared.running.Running.{Running}
-use Rattle.hn_rules.specs.Delegating.{delegating, withdrawing}
-use Rattle.hn_rules.specs.Events.{IsAttaching, detaching, setting_caps, setting_private, setting_addresses, IsRestarting}
-use Rattle.hn_rules.specs.Rules.{words_of}
-use Rattle.hn_router.specs.Act.{PlainEvent, Attach, Detach, External, Withdraw, SetCaps, Private, Addresses, Restart, is_refused, IsEdit}
-use Rattle.hn_router.specs.Laws.{endpoints_by}
+use Rattle.hn_router.specs.Act.{Detach, External, Withdraw, SetCaps, Private, Addresses}
 
 -- what endpoints that come and go keep, where this holds of the event
 pub record EndpointsKeep (May : PlainEvent → Type 0) (P : Running → Type 0) : Type 0 where

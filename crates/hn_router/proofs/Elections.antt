@@ -1,14 +1,7 @@
 -- Who is elected, as a router sees the network.
-use Rattle.std.proofs.Common.{◌≡◌, List, Option, Some, None, subst}
-use Rattle.std.specs.Prelude.{IfSome, IfNone, MatchOption}
-use Rattle.hn_base.specs.declared.ids.EpId.{EpId}
-use Rattle.hn_base.specs.declared.ids.NodeId.{NodeId}
-use Rattle.hn_base.specs.declared.letter.Letter.{Letter}
-use Rattle.hn_data.specs.View.{PlainView}
+use Rattle.hn_base.proofs.Names.{◌≡◌, List, Option, Some, None, subst, IfNone, MatchOption}
+use Rattle.hn_router.proofs.Names.{IfSome, EpId, NodeId, Letter, PlainView, IsElected, HasNoCandidate, State, seen_by, IsElectedAt}
 use Rattle.hn_link.specs.CommonLink.{IsCommonLink}
-use Rattle.hn_link.specs.Election.{IsElected, HasNoCandidate}
-use Rattle.hn_rules.specs.declared.state.State.{State}
-use Rattle.hn_rules.specs.Seen.{seen_by, IsElectedAt}
 
 who_is : (view : PlainView) (common : List (NodeId × EpId)) (letter : Letter) (who : Option NodeId)
     → IfSome who (IsElected view common letter) → IfNone who (HasNoCandidate view common letter) → MatchOption who (HasNoCandidate view common letter) (IsElected view common letter)

@@ -1,30 +1,20 @@
 -- What each event keeps: what is sent is short and of bytes, the limit of the table stays, and what is held and sent was published.
-use Rattle.std.proofs.Common.{◌≡◌, ◌<◌, ◌^◌, ◌⊎◌, ℕ, List, [], ◌++◌, inl, inr, refl, sym, ap, subst, arith}
-use Rattle.std.specs.Prelude.{All, length, nat_eq, ◌≤◌}
-use Rattle.std.specs.Option.{option_eq}
-use Rattle.std.proofs.lemmas.Bool.{cond_both}
-use Rattle.std.proofs.lemmas.List.{append-nil}
-use Rattle.std.proofs.lemmas.List.Elements.{All-nil}
-use Rattle.hn_base.specs.declared.ids.EpId.{EpId}
-use Rattle.hn_tlv.specs.Grammar.{PlainTlv}
+use Rattle.hn_base.proofs.Names.{◌≡◌, ◌<◌, ◌^◌, ◌⊎◌, ℕ, List, [], ◌++◌, inl, inr, refl, sym, ap, subst, arith, All, nat_eq, option_eq, cond_both, append-nil, All-nil}
+use Rattle.hn_router.proofs.Names.{length, EpId, PlainTlv, Done, Running, State, EachKeeps, IsAttaching, detaching, RouterStaysLater, AttachingKeeps, KeepsWell, IsWell, IsRouter, begun_at, PlainEvent}
+use Rattle.hn_router.proofs.Names.{Arrive, IsEventInRange, IsShortSend}
+use Rattle.std.specs.Prelude.{◌≤◌}
 use Rattle.hn_rules.specs.declared.answers.Answer.{Answer}
-use Rattle.hn_rules.specs.declared.done.Done.{Done}
 use Rattle.hn_rules.specs.declared.done.Outgoing.{Outgoing}
 use Rattle.hn_rules.specs.declared.done.Publication.{Publication}
-use Rattle.hn_rules.specs.declared.running.Running.{Running}
-use Rattle.hn_rules.specs.declared.state.State.{State}
 use Rattle.hn_own.specs.HeldPairs.{without_private}
-use Rattle.hn_rules.specs.Changes.{EachKeeps}
-use Rattle.hn_rules.specs.Events.{IsAttaching, detaching}
 use Rattle.hn_rules.specs.Genuine.{IsGenuine, TextsCollide, TlvsSayPublished, BytesSayPublished, IsGenuineAnswer, IsGenuineSoFar, IsGenuineOrCollides}
-use Rattle.hn_rules.specs.Laws.{RouterStaysLater, AttachingKeeps, KeepsWell, ChangesKeepLimit, RouterIsHashed, ChangesKeepShort, ChangesKeepBytes, ChangesKeepGenuine}
+use Rattle.hn_rules.specs.Laws.{ChangesKeepLimit, RouterIsHashed, ChangesKeepShort, ChangesKeepBytes, ChangesKeepGenuine}
 use Rattle.hn_rules.specs.Lengths.{most_answer, most_datagram, AreShort}
-use Rattle.hn_rules.specs.Router.{IsWell, IsHashed, IsRouter}
-use Rattle.hn_rules.specs.Rules.{begun_at}
+use Rattle.hn_rules.specs.Router.{IsHashed}
 use Rattle.hn_rules.specs.Spelled.{IsSpelled, AreOfBytes}
-use Rattle.hn_router.specs.Act.{PlainEvent, Arrive, IsEventInRange, Happened}
+use Rattle.hn_router.specs.Act.{Happened}
 use Rattle.hn_router.specs.Laws.{IsTrusted, SendsAreShort, SendsAreBytes, LimitStays, GenuineStays}
-use Rattle.hn_router.specs.Sends.{IsShortSend, IsSendOfBytes}
+use Rattle.hn_router.specs.Sends.{IsSendOfBytes}
 use Rattle.hn_router.proofs.Changing.{ChangeLaws, IsFrom, given_keep, event_keeps}
 use Rattle.hn_router.proofs.Edits.{EndpointsKeep, GivenKeep}
 

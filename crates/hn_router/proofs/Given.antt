@@ -1,8 +1,6 @@
 -- What an event gives fits where its parts do.
-use Rattle.std.proofs.Common.{◌<◌, ◌^◌, ℕ}
-use Rattle.hn_base.specs.Prefix.{PlainPrefix, IsPrefix}
-use Rattle.hn_own.specs.Addresses.{OwnAddress}
-use Rattle.hn_own.specs.Ranges.{IsRangedAddress}
+use Rattle.hn_base.proofs.Names.{◌<◌, ◌^◌, ℕ, PlainPrefix, IsPrefix}
+use Rattle.hn_router.proofs.Names.{OwnAddress, IsRangedAddress}
 use Rattle.hn_rules.specs.Given.{IsRangedDelegation}
 
 pub external_fits : (prefix : PlainPrefix) (valid preferred : ℕ) → IsPrefix prefix → valid < 2 ^ 32 → preferred < 2 ^ 32 → IsRangedDelegation prefix valid preferred

@@ -1,31 +1,14 @@
 -- What an endpoint advertises of a router's assignments, one after the other.
-use Rattle.std.proofs.Common.{◌≡◌, ◌↔◌, ℕ, ◌+◌, ◌<◌, List, [], ◌∷◌, ◌++◌, map, take, get_or, slice_get, Some, arith, Ordering, Contains, refl, sym, ◌∙◌, ap, subst, ⊎_elim}
-use Rattle.std.specs.Prelude.{All}
-use Rattle.std.specs.declared.cmp.Ordering.TheVariants.{Less, Equal, Greater}
+use Rattle.hn_base.proofs.Names.{◌≡◌, ◌↔◌, ℕ, ◌+◌, ◌<◌, List, [], ◌∷◌, ◌++◌, map, take, get_or, slice_get, Some, arith, Ordering, Contains, refl, sym, ◌∙◌, ap, subst, ⊎_elim, All, Less, Equal}
+use Rattle.hn_base.proofs.Names.{Greater, on, nat_cmp, ordering_then, nat_cmp_total, tied_itself, map-append, length-take, get_or-take, All-contains, All-push, All-take, Contains-push}
+use Rattle.hn_base.proofs.Names.{Contains-push_cases, Contains-append_left, Less-from_sorted, get_or_from_slice_get, slice_get_within, PlainPrefix, IsPrefix, IsWithin, prefix_cmp}
+use Rattle.hn_router.proofs.Names.{nothing_in, sorted_parts, contains_at, EpId, Info, Assigned, IsInDelegated, assigned_pair, IsAscending, PlainView, Delegated, AreUsable, InsideKeepsTheOrder, State}
+use Rattle.hn_router.proofs.Names.{seen_by, AreInfos, IsInfoFrom, HasNoInfo, prefix_total}
 use Rattle.std.specs.List.Sorted.{IsStrictlySortedBy}
-use Rattle.std.specs.Ordering.{on, nat_cmp, ordering_then}
-use Rattle.std.proofs.lemmas.Cmp.{nat_cmp_total, tied_itself}
-use Rattle.std.proofs.lemmas.List.{map-append, length-take, get_or-take}
-use Rattle.std.proofs.lemmas.List.Elements.{All-contains, All-push, All-take, Contains-push, Contains-push_cases, Contains-append_left}
-use Rattle.std.proofs.lemmas.Map.Keys.{Less-from_sorted}
-use Rattle.std.proofs.lemmas.Option.{get_or_from_slice_get, slice_get_within}
-use Rattle.hn_base.proofs.AscendingLists.{nothing_in, Contains-map, Contains-from_map, sorted_push, sorted_parts}
-use Rattle.hn_base.proofs.PartsAtPlaces.{contains_at, one_of_ascending}
-use Rattle.hn_base.specs.declared.ids.EpId.{EpId}
-use Rattle.hn_base.specs.Prefix.{PlainPrefix, IsPrefix, IsWithin, prefix_cmp}
-use Rattle.hn_advert.specs.declared.advert.Info.{Info}
-use Rattle.hn_assign.specs.declared.assigned.Assigned.{Assigned}
-use Rattle.hn_assign.specs.Facts.{IsInDelegated}
-use Rattle.hn_assign.specs.Pair.{pair_cmp, assigned_pair, IsAscending}
-use Rattle.hn_data.specs.View.{PlainView}
-use Rattle.hn_deleg.specs.declared.delegated.Delegated.{Delegated}
-use Rattle.hn_deleg.specs.Used.{AreUsable, prefixes_of, whole_seconds}
-use Rattle.hn_deleg.specs.Laws.{InsideKeepsTheOrder}
-use Rattle.hn_rules.specs.declared.state.State.{State}
-use Rattle.hn_rules.specs.Seen.{seen_by}
-use Rattle.hn_router.specs.Advertising.{AreInfos}
-use Rattle.hn_router.specs.Infos.{IsInfoFrom, HasNoInfo}
-use Rattle.hn_base.proofs.Prefixes.{prefix_total}
+use Rattle.hn_base.proofs.AscendingLists.{Contains-map, Contains-from_map, sorted_push}
+use Rattle.hn_base.proofs.PartsAtPlaces.{one_of_ascending}
+use Rattle.hn_assign.specs.Pair.{pair_cmp}
+use Rattle.hn_deleg.specs.Used.{prefixes_of, whole_seconds}
 use Rattle.hn_base.proofs.FrontOfList.{front_at}
 
 -- ---- orders

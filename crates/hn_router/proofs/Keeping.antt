@@ -1,23 +1,13 @@
 -- The moment that a router keeps: no fact of a router looks at it, and where it is after the router's, each tick before it does
 -- nothing.
-use Rattle.std.proofs.Common.{◌≡◌, ◌∙◌, ◌<◌, ◌≤◌, ℕ, List, inl, inr, refl, sym, ap, subst, slice_index, arith}
+use Rattle.hn_base.proofs.Names.{◌≡◌, ◌∙◌, ◌<◌, ◌≤◌, ℕ, List, inl, inr, refl, sym, ap, subst, slice_index, arith, Begins}
+use Rattle.hn_router.proofs.Names.{Delegated, Done, Running, State, nothing, IsNextDue, IsIdleTick, RouterStaysLater, IsRouter, IsSole, begun_at, at_moment, IsTick, PlainEvent, Tick, IsEvent}
+use Rattle.hn_router.proofs.Names.{DidNothing, IsDueAfter, IsKeptRouter}
 use Rattle.hn_assign.specs.declared.assigned.Wish.{Wish}
-use Rattle.hn_base.specs.Words.{Begins}
-use Rattle.hn_deleg.specs.declared.delegated.Delegated.{Delegated}
-use Rattle.hn_rules.specs.declared.done.Done.{Done}
-use Rattle.hn_rules.specs.declared.running.Running.{Running}
-use Rattle.hn_rules.specs.declared.state.State.{State}
 use Rattle.hn_rules.specs.Assigning.{AreAsked}
-use Rattle.hn_rules.specs.Done.{nothing}
-use Rattle.hn_rules.specs.Due.{IsNextDue}
-use Rattle.hn_rules.specs.Idle.{IsIdleTick}
-use Rattle.hn_rules.specs.Laws.{RouterStaysLater, StillIsIdle, IdleIsStill, IdleUntilDue, NextDueIsOne}
-use Rattle.hn_rules.specs.Router.{IsRouter}
-use Rattle.hn_rules.specs.Rules.{IsSole, begun_at}
-use Rattle.hn_rules.specs.Still.{at_moment, IsStill}
-use Rattle.hn_rules.specs.Ticks.{IsTick}
-use Rattle.hn_router.specs.Act.{PlainEvent, Tick, IsEvent, DidNothing, IsDueAfter, Happened}
-use Rattle.hn_router.specs.Kept.{IsKeptRouter}
+use Rattle.hn_rules.specs.Laws.{StillIsIdle, IdleIsStill, IdleUntilDue, NextDueIsOne}
+use Rattle.hn_rules.specs.Still.{IsStill}
+use Rattle.hn_router.specs.Act.{Happened}
 
 -- ---- no fact of a router looks at it
 

@@ -1,3 +1,4 @@
+mod Names
 mod Elections
 mod Moments
 mod NewRouter

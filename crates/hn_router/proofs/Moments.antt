@@ -1,28 +1,15 @@
 -- After an event a router's moment is the event's, and its endpoints change only where one is attached or detached.
-use Rattle.std.proofs.Common.{◌≡◌, ◌∙◌, Bool, cond, List, ◌∷◌, ◌++◌, map, filter, nat_lt, inl, inr, refl, sym, ap}
-use Rattle.std.proofs.lemmas.List.{map-append}
-use Rattle.hn_base.specs.declared.ids.EpId.{EpId}
-use Rattle.hn_tlv.specs.Grammar.{PlainTlv}
-use Rattle.hn_dncp.specs.declared.port.Port.{Port}
+use Rattle.hn_base.proofs.Names.{◌≡◌, ◌∙◌, Bool, cond, List, ◌∷◌, ◌++◌, map, filter, nat_lt, inl, inr, refl, sym, ap, map-append, Then}
+use Rattle.hn_router.proofs.Names.{EpId, PlainTlv, Port, endpoints_of, State, Running, Origin, IsArrival, IsAssigning, ending, IsRestarting, IsRefresh, Rule, begun_at, IsExpiry, forgetting}
+use Rattle.hn_router.proofs.Names.{IsPortsTick, PlainEvent, Arrive, Tick, Attach, Restart, is_refused, IsEdit, IsEventRule, IsEvent, endpoints_by, IsTick}
 use Rattle.hn_dncp.specs.Port.{attached_port}
-use Rattle.hn_own.specs.Ports.{endpoints_of, attached}
-use Rattle.hn_rules.specs.declared.state.State.{State}
-use Rattle.hn_rules.specs.declared.running.Running.{Running}
-use Rattle.hn_rules.specs.declared.running.Origin.{Origin}
-use Rattle.hn_rules.specs.Arrival.{IsArrival}
-use Rattle.hn_rules.specs.Assigning.{IsAssigning}
-use Rattle.hn_rules.specs.Delegating.{ending}
-use Rattle.hn_rules.specs.Events.{IsRestarting}
+use Rattle.hn_own.specs.Ports.{attached}
 use Rattle.hn_rules.specs.Laws.{KeepsEndpoints}
-use Rattle.hn_rules.specs.Refresh.{IsRefresh}
-use Rattle.hn_base.specs.Rules.{Then}
-use Rattle.hn_rules.specs.Rules.{Rule, begun_at}
-use Rattle.hn_rules.specs.Tick.{IsExpiry, forgetting, IsPortsTick}
-use Rattle.hn_router.specs.Act.{PlainEvent, Arrive, Tick, Attach, Restart, is_refused, IsEdit, IsEventRule, IsEvent, Happened}
+use Rattle.hn_router.specs.Act.{Happened}
 use Rattle.hn_router.proofs.Edits.{filter_parts, plain_edit}
 use Rattle.hn_router.proofs.Refused.{refused_then}
-use Rattle.hn_router.specs.Laws.{MomentIsNow, endpoints_by, EndpointsFollow}
-use Rattle.hn_rules.specs.Ticks.{IsLosing, IsSettling, IsTick}
+use Rattle.hn_router.specs.Laws.{MomentIsNow, EndpointsFollow}
+use Rattle.hn_rules.specs.Ticks.{IsLosing, IsSettling}
 
 -- what the laws say of the rules
 pub record MomentLaws : Type 0 where

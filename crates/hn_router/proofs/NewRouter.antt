@@ -1,36 +1,27 @@
 -- A new router is one.
-use Rattle.std.proofs.Common.{◌≡◌, ◌<◌, ◌^◌, ◌∙◌, ℕ, List, [], ◌∷◌, ◌++◌, None, Some, map, filter, refl, sym, ap, subst, arith}
-use Rattle.std.specs.Prelude.{All, Contains, ◌↔◌, nat_lt, is_none, IsTrue}
+use Rattle.hn_base.proofs.Names.{◌≡◌, ◌<◌, ◌^◌, ◌∙◌, ℕ, List, [], ◌∷◌, ◌++◌, None, Some, map, filter, refl, sym, ap, subst, arith, All, is_none, All-nil, node_cmp, IsPrefix}
+use Rattle.hn_router.proofs.Names.{nat_lt, IsTrue, NodeId, Assigned, IsInDelegated, Entry, Port, no_pairs, links_of, OwnItems, OwnAddress, is_attached, IsRangedHeld, IsRangedAddress, OwnPrefix}
+use Rattle.hn_router.proofs.Names.{IsPrivateLength, IsWell}
+use Rattle.std.specs.Prelude.{Contains, ◌↔◌}
 use Rattle.std.specs.List.Sorted.{IsStrictlySortedBy}
-use Rattle.std.proofs.lemmas.List.Elements.{All-nil}
-use Rattle.hn_base.specs.NodeIds.{node_cmp}
-use Rattle.hn_base.specs.Prefix.{IsPrefix}
-use Rattle.hn_base.specs.declared.ids.NodeId.{NodeId}
-use Rattle.hn_assign.specs.declared.assigned.Assigned.{Assigned}
 use Rattle.hn_data.specs.declared.said.PeerLink.{PeerLink}
 use Rattle.hn_assign.specs.declared.held.Held.{Held}
-use Rattle.hn_assign.specs.Facts.{IsInDelegated, HasOwnPriority, IsAssignedPast, IsSoonDue}
+use Rattle.hn_assign.specs.Facts.{HasOwnPriority, IsAssignedPast, IsSoonDue}
 use Rattle.hn_data.specs.View.{IsNetwork}
-use Rattle.hn_data.specs.declared.view.Entry.{Entry}
 use Rattle.hn_graph.specs.Path.{IsReachable}
 use Rattle.hn_graph.specs.Laws.{OwnIsReachable, ReachableIsANode}
 use Rattle.hn_dncp.specs.Peers.{ArePeers}
-use Rattle.hn_dncp.specs.declared.port.Port.{Port}
 use Rattle.hn_store.specs.Nodes.{Nodes, held, IsTable}
 use Rattle.hn_store.specs.Loss.{is_among}
 use Rattle.hn_store.specs.declared.stored.HeldNode.{HeldNode}
 use Rattle.hn_store.specs.Laws.{NoNodesAreTable}
-use Rattle.hn_own.specs.HeldPairs.{AreHeldPairs, no_pairs}
+use Rattle.hn_own.specs.HeldPairs.{AreHeldPairs}
 use Rattle.hn_own.specs.OwnPrefixes.{AreOwnPrefixes}
-use Rattle.hn_own.specs.Own.{links_of}
-use Rattle.hn_own.specs.declared.own.OwnItems.{OwnItems}
-use Rattle.hn_own.specs.Addresses.{OwnAddress, AreAddresses}
-use Rattle.hn_own.specs.Ports.{ArePorts, is_attached}
-use Rattle.hn_own.specs.Ranges.{IsRangedPeer, IsRangedHeld, IsRangedAddress}
-use Rattle.hn_own.specs.declared.own_prefixes.OwnPrefix.{OwnPrefix}
+use Rattle.hn_own.specs.Addresses.{AreAddresses}
+use Rattle.hn_own.specs.Ports.{ArePorts}
+use Rattle.hn_own.specs.Ranges.{IsRangedPeer}
 use Rattle.hn_rules.specs.Nodes.{held_entry, own_entry, nodes_of}
-use Rattle.hn_rules.specs.Given.{IsPrivateLength}
-use Rattle.hn_rules.specs.Router.{IsPortPast, IsNodePast, EndsSoon, IsWell, WasReach}
+use Rattle.hn_rules.specs.Router.{IsPortPast, IsNodePast, EndsSoon, WasReach}
 use Rattle.hn_router.specs.Laws.{NewIsRouter}
 use Rattle.hn_base.proofs.AscendingLists.{Contains-one}
 

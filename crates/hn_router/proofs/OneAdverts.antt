@@ -1,26 +1,13 @@
 -- A router advertises one thing on an endpoint.
-use Rattle.std.proofs.Common.{◌≡◌, ◌↔◌, ℕ, List, Option, sym, ◌∙◌, ap, subst, ⊎_elim, Contains}
-use Rattle.std.specs.Prelude.{is_some, MatchOption}
-use Rattle.std.specs.Ordering.{on}
-use Rattle.std.proofs.lemmas.Cmp.{on_total}
-use Rattle.hn_base.proofs.AscendingLists.{ascending_unique, sorted_parts}
-use Rattle.hn_base.specs.declared.ids.EpId.{EpId}
-use Rattle.hn_base.specs.declared.ids.NodeId.{NodeId}
-use Rattle.hn_base.specs.declared.letter.Letter.{Letter}
-use Rattle.hn_base.specs.declared.letter.Letter.TheVariants.{H}
-use Rattle.hn_base.specs.Prefix.{prefix_cmp}
+use Rattle.hn_base.proofs.Names.{◌≡◌, ◌↔◌, ℕ, List, Option, sym, ◌∙◌, ap, subst, ⊎_elim, Contains, MatchOption, on, on_total, prefix_cmp}
+use Rattle.hn_router.proofs.Names.{is_some, sorted_parts, EpId, NodeId, Letter, H, Info, advert_bytes, Delegated, IsOutside, IsElected, HasNoCandidate, State, seen_by, IsElectedAt, IsInfoOf, AreInfos}
+use Rattle.hn_router.proofs.Names.{IsLifetime, IsAdvertBytes, prefix_total}
+use Rattle.hn_base.proofs.AscendingLists.{ascending_unique}
 use Rattle.hn_advert.specs.declared.advert.Advert.{Advert}
-use Rattle.hn_advert.specs.declared.advert.Info.{Info}
-use Rattle.hn_advert.specs.Advert.{advert_bytes}
-use Rattle.hn_deleg.specs.declared.delegated.Delegated.{Delegated}
-use Rattle.hn_deleg.specs.Used.{IsOutside}
 use Rattle.hn_deleg.specs.Laws.{UsableIsUnique}
-use Rattle.hn_link.specs.Election.{IsElected, HasNoCandidate, HasOneAnswer}
+use Rattle.hn_link.specs.Election.{HasOneAnswer}
 use Rattle.hn_link.specs.Laws.{CommonLinkIsUnique}
-use Rattle.hn_rules.specs.declared.state.State.{State}
-use Rattle.hn_rules.specs.Seen.{seen_by, IsElectedAt}
-use Rattle.hn_router.specs.Advertising.{IsInfoOf, AreInfos, IsLifetime, IsAdvertAt, IsAdvertBytes}
-use Rattle.hn_base.proofs.Prefixes.{prefix_total}
+use Rattle.hn_router.specs.Advertising.{IsAdvertAt}
 
 -- whether somebody is elected has one answer
 one_flag : CommonLinkIsUnique → HasOneAnswer → (s : State) (e : EpId) (letter : Letter) (a b : Option NodeId) → IsElectedAt s e letter a → IsElectedAt s e letter b → is_some a ≡ is_some b

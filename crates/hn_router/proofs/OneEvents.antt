@@ -1,18 +1,10 @@
 -- Each event has at most one result over one stream of words.
-use Rattle.std.proofs.Common.{◌≡◌, ◌∙◌, ◌⊎◌, ℕ, false, List, ap, refl, sym, inl, inr}
-use Rattle.std.specs.Prelude.{IsTrue}
-use Rattle.hn_base.specs.declared.ids.EpId.{EpId}
-use Rattle.hn_tlv.specs.Grammar.{PlainTlv, IsTlvList}
-use Rattle.hn_tlv.specs.Laws.{ListIsUnique, ListHasNoFirstFault, FirstFaultIsUnique}
-use Rattle.hn_rules.specs.declared.running.Running.{Running}
-use Rattle.hn_rules.specs.declared.running.Origin.{Origin}
+use Rattle.hn_base.proofs.Names.{◌≡◌, ◌∙◌, ◌⊎◌, ℕ, false, List, ap, refl, sym, inl, inr}
+use Rattle.hn_router.proofs.Names.{IsTrue, EpId, PlainTlv, IsTlvList, ListHasNoFirstFault, Running, Origin, IsSole, noted, words_of, IsArrival, IsAttaching, IsRestarting, IsRefresh, PlainEvent}
+use Rattle.hn_router.proofs.Names.{Arrive, Tick, Attach, Restart, is_refused, IsEdit, IsEventRule, IsEvent, IsTick}
+use Rattle.hn_tlv.specs.Laws.{ListIsUnique, FirstFaultIsUnique}
 use Rattle.hn_rules.specs.declared.done.Note.TheVariants as note
-use Rattle.hn_rules.specs.Rules.{IsSole, noted, words_of}
-use Rattle.hn_rules.specs.Arrival.{IsArrival}
-use Rattle.hn_rules.specs.Events.{IsAttaching, IsRestarting}
-use Rattle.hn_rules.specs.Refresh.{IsRefresh}
-use Rattle.hn_router.specs.Act.{PlainEvent, Arrive, Tick, Attach, Restart, IsFar, IsMalformed, IsRead, is_refused, IsEdit, IsEventRule, IsEvent}
-use Rattle.hn_rules.specs.Ticks.{IsTick}
+use Rattle.hn_router.specs.Act.{IsFar, IsMalformed, IsRead}
 use Rattle.hn_base.proofs.OneResult.{sole_given, sole_plain, sole_both, sole_from, sole_or, sole_where, sole_some}
 use Rattle.hn_base.proofs.DecidingTests.{not_both}
 use Rattle.hn_router.proofs.Edits.{plain_edit}

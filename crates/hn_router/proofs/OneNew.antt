@@ -1,11 +1,9 @@
 -- A new router is determined by its identifier, its limit and its moment.
-use Rattle.std.proofs.Common.{◌≡◌, ◌∙◌, ℕ, List, ap, sym}
-use Rattle.hn_base.specs.Caps.{PlainCaps, plain_caps}
-use Rattle.hn_base.specs.declared.caps.Caps.{Caps}
+use Rattle.hn_base.proofs.Names.{◌≡◌, ◌∙◌, ℕ, List, ap, sym, PlainCaps, plain_caps}
+use Rattle.hn_router.proofs.Names.{Caps, links_of, network_state_hash}
 use Rattle.hn_own.specs.HeldPairs.{published_in}
-use Rattle.hn_own.specs.Own.{links_of}
 use Rattle.hn_own.specs.Laws.{OwnDataIsUnique}
-use Rattle.hn_rules.specs.Refresh.{own_items, network_state_hash}
+use Rattle.hn_rules.specs.Refresh.{own_items}
 use Rattle.hn_router.specs.Laws.{NewIsUnique}
 use Rattle.hn_base.proofs.KnownByFields.{same_caps}
 

@@ -1,12 +1,10 @@
 -- An arrival that is let pass is the event.
-use Rattle.std.proofs.Common.{◌≡◌, ℕ, List, Result, Ok, Err, inr, refl, sym, ap}
-use Rattle.std.specs.Prelude.{not, OnOk, OnErr}
+use Rattle.hn_base.proofs.Names.{◌≡◌, ℕ, List, Result, Ok, Err, inr, refl, sym, ap, OnOk, OnErr}
+use Rattle.hn_router.proofs.Names.{Origin, State, nothing, after_passing, Arrive, Tick}
+use Rattle.std.specs.Prelude.{not}
 use Rattle.hn_rules.specs.declared.arrival.passing.Passing.{Passing}
-use Rattle.hn_rules.specs.declared.running.Origin.{Origin}
-use Rattle.hn_rules.specs.declared.state.State.{State}
-use Rattle.hn_rules.specs.Done.{nothing}
-use Rattle.hn_rules.specs.Passing.{after_passing, IsLetPass}
-use Rattle.hn_router.specs.Act.{Arrive, Tick, Happened}
+use Rattle.hn_rules.specs.Passing.{IsLetPass}
+use Rattle.hn_router.specs.Act.{Happened}
 
 no_tick : (from : Origin) (bytes : List ℕ) → Arrive from bytes ≡ Tick → ⊥
 no_tick from bytes is = cc

@@ -1,14 +1,9 @@
 -- What was planned is what happens.
-use Rattle.std.proofs.Common.{◌≡◌, ℕ, Option, refl, subst}
-use Rattle.hn_base.specs.Words.{Drew, Took}
-use Rattle.hn_rules.specs.declared.state.State.{State}
-use Rattle.hn_rules.specs.declared.running.Running.{Running}
-use Rattle.hn_base.specs.Rules.{Then}
-use Rattle.hn_rules.specs.Refresh.{IsRefresh}
+use Rattle.hn_base.proofs.Names.{◌≡◌, ℕ, Option, refl, subst, Drew, Took, Then}
+use Rattle.hn_router.proofs.Names.{State, Running, IsRefresh, PlainEvent, plain_event, IsEdit, IsEventRule, IsDueAfter, IsEvent, begun_at}
 use Rattle.hn_router.specs.declared.event.Event.{Event}
 use Rattle.hn_router.specs.declared.event.Event.TheVariants as event
-use Rattle.hn_router.specs.Act.{PlainEvent, plain_event, IsEdit, IsEventRule, IsDueAfter, IsEvent, Happened, HasRun}
-use Rattle.hn_rules.specs.Rules.{begun_at}
+use Rattle.hn_router.specs.Act.{Happened, HasRun}
 use Rattle.hn_router.proofs.Shift.{took_shifted}
 
 -- an event beside an arrival and a tick runs its edit, and then a refresh

@@ -1,18 +1,10 @@
 -- After refused input only the moment is another, and no moment at which something is next due is kept.
-use Rattle.std.proofs.Common.{◌≡◌, ◌∙◌, ℕ, List, [], ◌∷◌, inl, inr, refl, sym, ap}
-use Rattle.std.specs.Prelude.{IsTrue}
-use Rattle.hn_base.specs.Addr.{IsLinkLocal}
+use Rattle.hn_base.proofs.Names.{◌≡◌, ◌∙◌, ℕ, List, [], ◌∷◌, inl, inr, refl, sym, ap, IsLinkLocal}
+use Rattle.hn_router.proofs.Names.{IsTrue, ListHasNoFirstFault, Running, Origin, State, Done, begun_at, noted, at_moment, PlainEvent, Arrive, Tick, is_refused, IsDueAfter, IsEvent}
 use Rattle.hn_tlv.specs.Grammar.{FirstFault}
-use Rattle.hn_tlv.specs.Laws.{ListHasNoFirstFault}
-use Rattle.hn_rules.specs.declared.running.Running.{Running}
-use Rattle.hn_rules.specs.declared.running.Origin.{Origin}
-use Rattle.hn_rules.specs.declared.state.State.{State}
-use Rattle.hn_rules.specs.declared.done.Done.{Done}
 use Rattle.hn_rules.specs.declared.done.Note.{Note}
 use Rattle.hn_rules.specs.declared.done.Note.TheVariants as note
-use Rattle.hn_rules.specs.Rules.{begun_at, noted}
-use Rattle.hn_rules.specs.Still.{at_moment}
-use Rattle.hn_router.specs.Act.{PlainEvent, Arrive, Tick, is_refused, IsDueAfter, IsEvent, Happened}
+use Rattle.hn_router.specs.Act.{Happened}
 use Rattle.hn_router.specs.Laws.{RefusedInputStays}
 
 -- whether an event is refused does not depend on the moment

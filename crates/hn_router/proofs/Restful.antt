@@ -1,17 +1,12 @@
 -- A tick that nothing disturbs.
-use Rattle.std.proofs.Common.{◌≤◌, ℕ, inl, inr, sym, subst}
+use Rattle.hn_base.proofs.Names.{◌≤◌, ℕ, inl, inr, sym, subst}
+use Rattle.hn_router.proofs.Names.{IsRouter, begun_at, at_moment, IsTick, Done, Running, State, Tick, IsEvent}
 use Rattle.hn_assign.specs.Fixed.{AreAssignmentsUnchanged}
 use Rattle.hn_assign.specs.declared.held.Ran.{Ran}
 use Rattle.hn_rules.specs.Assigning.{IsRunAssigned}
 use Rattle.hn_rules.specs.Rested.{IsRested, RestfulTick}
-use Rattle.hn_rules.specs.Router.{IsRouter}
-use Rattle.hn_rules.specs.Rules.{begun_at}
-use Rattle.hn_rules.specs.Still.{at_moment, IsUneventful}
-use Rattle.hn_rules.specs.Ticks.{IsTick}
-use Rattle.hn_rules.specs.declared.done.Done.{Done}
-use Rattle.hn_rules.specs.declared.running.Running.{Running}
-use Rattle.hn_rules.specs.declared.state.State.{State}
-use Rattle.hn_router.specs.Act.{Tick, IsEvent, Happened}
+use Rattle.hn_rules.specs.Still.{IsUneventful}
+use Rattle.hn_router.specs.Act.{Happened}
 
 ticks : (now : ℕ) (s : State) (after : Running) → IsEvent Tick (begun_at now s) after → IsTick (begun_at now s) after
 ticks now s after (inl refused) = absurd cc

@@ -1,6 +1,6 @@
 -- What a call took from a draw that nothing was taken from before, it takes after any words.
-use Rattle.std.proofs.Common.{◌+◌, ◌∙◌, ℕ, List, [], Option, Some, length, ap, arith, zero-add, add_assoc, length-append}
-use Rattle.hn_base.specs.Words.{IsAt, Drew, Took}
+use Rattle.hn_base.proofs.Names.{◌+◌, ◌∙◌, ℕ, List, [], Option, Some, length, ap, arith, zero-add, length-append, IsAt, Drew, Took}
+use Rattle.std.proofs.Common.{add_assoc}
 use Rattle.hn_base.proofs.FirstWords.{begins_both}
 
 pub took_shifted : (told told_after : Option (ℕ → ℕ)) (words : List ℕ) → Drew told [] told_after words → Took told words told_after

@@ -1,30 +1,13 @@
 -- What a router advertises on an endpoint: it cannot be that there is nothing.
-use Rattle.std.proofs.Common.{◌≡◌, ◌<◌, ◌≤◌, ◌+◌, ◌^◌, ℕ, zero, suc, List, [], ◌∷◌, ◌++◌, length, take, slice_get, Contains, Some, refl, sym, subst, inl, inr, arith}
-use Rattle.std.specs.Prelude.{is_some}
-use Rattle.std.proofs.lemmas.List.{take_all}
-use Rattle.std.specs.List.{AllByRecursion}
-use Rattle.std.proofs.lemmas.List.Elements.{All-contains, recursion_from_All}
-use Rattle.std.proofs.lemmas.Option.{slice_get_cases}
-use Rattle.hn_base.specs.Exists.{Some! }
-use Rattle.hn_base.specs.Prefix.{IsPrefix}
-use Rattle.hn_base.specs.declared.ids.EpId.{EpId}
-use Rattle.hn_base.specs.declared.letter.Letter.TheVariants.{H}
+use Rattle.hn_base.proofs.Names.{◌≡◌, ◌<◌, ◌≤◌, ◌+◌, ◌^◌, ℕ, zero, suc, List, [], ◌∷◌, ◌++◌, length, take, slice_get, Contains, Some, refl, sym, subst, inl, inr, arith, take_all, AllByRecursion}
+use Rattle.hn_base.proofs.Names.{All-contains, recursion_from_All, slice_get_cases, Some!, IsPrefix}
+use Rattle.hn_router.proofs.Names.{is_some, EpId, H, contains_at, some_by, some_is, some_then, Info, Assigned, Delegated, InsideKeepsTheOrder, AreUsable, IsOutside, IsRangedHeld, IsRouter, seen_by}
+use Rattle.hn_router.proofs.Names.{State, AreInfos, IsInfoOf, IsLifetime, IsInfoFrom, ElectedExists}
 use Rattle.hn_base.proofs.Elements.{all_of}
-use Rattle.hn_base.proofs.PartsAtPlaces.{contains_at}
-use Rattle.hn_base.proofs.SomeExists.{some_by, some_is, some_then}
 use Rattle.hn_advert.specs.Advert.{IsInfo}
-use Rattle.hn_advert.specs.declared.advert.Info.{Info}
-use Rattle.hn_assign.specs.declared.assigned.Assigned.{Assigned}
-use Rattle.hn_deleg.specs.declared.delegated.Delegated.{Delegated}
-use Rattle.hn_deleg.specs.Laws.{InsideKeepsTheOrder, LifetimesFit, UsableExists}
-use Rattle.hn_deleg.specs.Used.{AreUsable, HasLifetimes, IsOutside}
-use Rattle.hn_own.specs.Ranges.{IsRangedHeld}
-use Rattle.hn_rules.specs.Router.{IsRouter}
-use Rattle.hn_rules.specs.Seen.{seen_by}
-use Rattle.hn_rules.specs.declared.state.State.{State}
-use Rattle.hn_router.specs.Advertising.{AreInfos, IsInfoOf, IsLifetime}
-use Rattle.hn_router.specs.Infos.{IsInfoFrom}
-use Rattle.hn_router.specs.Laws.{AdvertExists, ElectedExists}
+use Rattle.hn_deleg.specs.Laws.{LifetimesFit, UsableExists}
+use Rattle.hn_deleg.specs.Used.{HasLifetimes}
+use Rattle.hn_router.specs.Laws.{AdvertExists}
 use Rattle.hn_router.proofs.InfoLists.{AreInfosOf, infos_none, infos_more_at, infos_same_at, infos_are}
 
 module _ (keeps : InsideKeepsTheOrder) (s : State) (router : IsRouter s) (e : EpId) (usable : List Delegated) (are : AreUsable (seen_by s) usable) where

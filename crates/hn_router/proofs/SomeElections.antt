@@ -1,27 +1,15 @@
 -- Who is elected, or that nobody stands for election: it cannot be that there is no answer.
-use Rattle.std.proofs.Common.{◌≡◌, ◌↔◌, ◌<◌, ◌∙◌, List, [], ◌∷◌, Contains, Option, Some, None, Ordering, sym, ap, subst, inl, inr}
-use Rattle.std.specs.Prelude.{MatchOption}
-use Rattle.std.specs.Cmp.{IsTotalOrder}
-use Rattle.std.specs.Ordering.{on}
-use Rattle.std.proofs.lemmas.Option.{same_Some}
-use Rattle.std.proofs.lemmas.Cmp.{on_total, then_total, nat_cmp_total}
-use Rattle.hn_base.specs.Exists.{Some! }
-use Rattle.hn_base.specs.declared.ids.EpId.{EpId}
-use Rattle.hn_base.specs.declared.ids.NodeId.{NodeId}
-use Rattle.hn_base.specs.declared.letter.Letter.{Letter}
-use Rattle.hn_base.proofs.AscendingLists.{Contains-head, Contains-tail, Contains-cases, nothing_in}
+use Rattle.hn_base.proofs.Names.{◌≡◌, ◌↔◌, ◌<◌, ◌∙◌, List, [], ◌∷◌, Contains, Option, Some, None, Ordering, sym, ap, subst, inl, inr, MatchOption, IsTotalOrder, on, same_Some, on_total, then_total}
+use Rattle.hn_base.proofs.Names.{nat_cmp_total, Some! }
+use Rattle.hn_router.proofs.Names.{EpId, NodeId, Letter, nothing_in, some_by, some_is, some_then, PlainView, Entry, IsElected, HasNoCandidate, seen_by, ElectedExists}
+use Rattle.hn_base.proofs.AscendingLists.{Contains-head, Contains-tail, Contains-cases}
 use Rattle.hn_base.proofs.Greatest.{greatest_of}
-use Rattle.hn_base.proofs.SomeExists.{some_by, some_is, some_then}
 use Rattle.hn_data.specs.Items.{HasItems}
 use Rattle.hn_data.specs.Laws.{ItemsAreUnique}
 use Rattle.hn_data.specs.Said.{version_of}
-use Rattle.hn_data.specs.View.{PlainView}
-use Rattle.hn_data.specs.declared.view.Entry.{Entry}
-use Rattle.hn_link.specs.Election.{priority_of, rank_of, rank_cmp, IsElectionCandidate, IsElected, HasNoCandidate}
+use Rattle.hn_link.specs.Election.{priority_of, rank_of, rank_cmp, IsElectionCandidate}
 use Rattle.hn_link.specs.Laws.{CommonLinkExists}
 use Rattle.hn_rules.specs.Laws.{ViewIsNetwork}
-use Rattle.hn_rules.specs.Seen.{seen_by}
-use Rattle.hn_router.specs.Laws.{ElectedExists}
 use Rattle.hn_typed.specs.Item.{PlainCaps}
 
 module _ (unique : ItemsAreUnique) (common : List (NodeId × EpId)) (letter : Letter) where

@@ -1,29 +1,16 @@
 -- Each event has a result over each stream of words: it cannot be that there is none.
-use Rattle.std.proofs.Common.{◌≡◌, ◌^◌, ℕ, false, List, [], ◌∷◌, refl, inl, inr, arith}
-use Rattle.std.specs.Prelude.{All, IsTrue}
-use Rattle.std.proofs.lemmas.List.Elements.{All-nil, All-cons}
-use Rattle.hn_base.specs.Addr.{IsLinkLocal}
-use Rattle.hn_base.specs.Byte.{IsByte}
-use Rattle.hn_base.specs.Exists.{Some! }
-use Rattle.hn_base.specs.Rules.{Then}
-use Rattle.hn_base.specs.Words.{Begins}
-use Rattle.hn_base.specs.declared.ids.EpId.{EpId}
+use Rattle.hn_base.proofs.Names.{◌≡◌, ◌^◌, ℕ, false, List, [], ◌∷◌, refl, inl, inr, arith, All, All-nil, All-cons, IsLinkLocal, IsByte, Some!, Then, Begins}
+use Rattle.hn_router.proofs.Names.{IsTrue, EpId, some_then, some_by, PlainTlv, IsTlvList, Origin, Running, IsAttaching, IsRestarting, IsRefresh, IsWell, begun_at, noted, words_of, IsTick, PlainEvent}
+use Rattle.hn_router.proofs.Names.{Arrive, Tick, Attach, Restart, is_refused, IsEventInRange, IsEdit, IsEventRule, IsEvent, DidNothing, IsDueAfter}
 use Rattle.hn_base.proofs.NextDue.{some_sooner}
-use Rattle.hn_base.proofs.SomeExists.{some_then, some_by}
 use Rattle.hn_base.proofs.SomeResult.{total_given, total_plain, total_by, total_both, total_test}
-use Rattle.hn_tlv.specs.Grammar.{PlainTlv, IsTlv, IsTlvList}
+use Rattle.hn_tlv.specs.Grammar.{IsTlv}
 use Rattle.hn_tlv.specs.Laws.{ListOrFirstFault}
 use Rattle.hn_rules.specs.declared.done.Note.TheVariants as note
-use Rattle.hn_rules.specs.declared.running.Origin.{Origin}
-use Rattle.hn_rules.specs.declared.running.Running.{Running}
 use Rattle.hn_rules.specs.Due.{IsDueAt}
-use Rattle.hn_rules.specs.Events.{IsAttaching, IsRestarting}
 use Rattle.hn_rules.specs.Laws.{HasAResult, ArrivalHasAResult}
-use Rattle.hn_rules.specs.Refresh.{IsRefresh}
-use Rattle.hn_rules.specs.Router.{IsWell}
-use Rattle.hn_rules.specs.Rules.{IsTotal, begun_at, noted, words_of}
-use Rattle.hn_rules.specs.Ticks.{IsTick}
-use Rattle.hn_router.specs.Act.{PlainEvent, Arrive, Tick, Attach, Restart, is_refused, IsEventInRange, IsOfBytes, IsEdit, IsEventRule, IsEvent, DidNothing, IsDueAfter, Happened, HasResults}
+use Rattle.hn_rules.specs.Rules.{IsTotal}
+use Rattle.hn_router.specs.Act.{IsOfBytes, Happened, HasResults}
 use Rattle.hn_router.specs.Laws.{EventHasAResult}
 use Rattle.hn_router.proofs.Edits.{plain_edit}
 use Rattle.hn_router.proofs.Stays.{StayLaws, keeps_edit}

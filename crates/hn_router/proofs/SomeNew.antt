@@ -1,18 +1,10 @@
 -- There is a new router of each identifier.
-use Rattle.std.proofs.Common.{◌≡◌, ℕ, List, [], ◌∷◌, false, None, refl, arith}
-use Rattle.std.proofs.lemmas.List.Elements.{All-nil}
-use Rattle.hn_base.specs.Prefix.{IsPrefix}
-use Rattle.hn_base.specs.declared.caps.Caps.{Caps}
-use Rattle.hn_base.specs.declared.ids.NodeId.{NodeId}
+use Rattle.hn_base.proofs.Names.{◌≡◌, ℕ, List, [], ◌∷◌, false, None, refl, arith, All-nil, IsPrefix}
+use Rattle.hn_router.proofs.Names.{Caps, NodeId, OwnItems, OwnPrefix, no_pairs, IsRangedAddress, State, network_state_hash}
 use Rattle.hn_data.specs.declared.said.AssignedPrefix.{AssignedPrefix}
-use Rattle.hn_own.specs.declared.own.OwnItems.{OwnItems}
-use Rattle.hn_own.specs.declared.own_prefixes.OwnPrefix.{OwnPrefix}
-use Rattle.hn_own.specs.HeldPairs.{no_pairs}
 use Rattle.hn_own.specs.Laws.{OwnDataExists}
 use Rattle.hn_own.specs.Own.{AreFew, PlainData}
-use Rattle.hn_own.specs.Ranges.{AreRanged, IsRangedAddress, IsRangedAssigned, IsRangedLink, items_from}
-use Rattle.hn_rules.specs.declared.state.State.{State}
-use Rattle.hn_rules.specs.Refresh.{network_state_hash}
+use Rattle.hn_own.specs.Ranges.{AreRanged, IsRangedAssigned, IsRangedLink, items_from}
 use Rattle.hn_router.specs.Laws.{NewExists}
 
 abbrev no_capability : Caps

@@ -1,24 +1,11 @@
 -- What an event leaves of a router is one.
-use Rattle.std.proofs.Common.{◌≡◌, ℕ, false, List, Option, inl, inr, refl, sym, subst}
-use Rattle.hn_base.specs.declared.caps.Caps.{Caps}
-use Rattle.hn_base.specs.declared.ids.EpId.{EpId}
-use Rattle.hn_base.specs.Prefix.{PlainPrefix}
-use Rattle.hn_base.specs.Rules.{Then}
-use Rattle.hn_tlv.specs.Grammar.{PlainTlv}
-use Rattle.hn_rules.specs.declared.running.Running.{Running}
-use Rattle.hn_rules.specs.declared.running.Origin.{Origin}
-use Rattle.hn_rules.specs.Arrival.{IsArrival}
-use Rattle.hn_rules.specs.Delegating.{withdrawing, ending}
-use Rattle.hn_rules.specs.Given.{IsPrivateLength}
-use Rattle.hn_rules.specs.Events.{detaching, setting_caps, setting_private, IsRestarting}
-use Rattle.hn_rules.specs.Laws.{KeepsRouter, KeepsWell, RefreshMakesRouter, AssigningKeeps, DelegatingKeeps, AttachingKeeps, AddressingKeeps, RouterStaysLater}
-use Rattle.hn_rules.specs.Router.{IsWell, IsRouter}
-use Rattle.hn_rules.specs.Refresh.{IsRefresh}
-use Rattle.hn_rules.specs.Rules.{begun_at}
-use Rattle.hn_rules.specs.Tick.{IsExpiry, forgetting, IsPortsTick}
-use Rattle.hn_router.specs.Act.{PlainEvent, Arrive, Tick, is_refused, IsEventInRange, IsEdit, IsEventRule, IsEvent, Happened}
+use Rattle.hn_base.proofs.Names.{◌≡◌, ℕ, false, List, Option, inl, inr, refl, sym, subst, PlainPrefix, Then}
+use Rattle.hn_router.proofs.Names.{Caps, EpId, PlainTlv, Running, Origin, IsArrival, withdrawing, ending, IsPrivateLength, detaching, setting_caps, setting_private, IsRestarting, KeepsWell}
+use Rattle.hn_router.proofs.Names.{AttachingKeeps, RouterStaysLater, IsWell, IsRouter, IsRefresh, begun_at, IsExpiry, forgetting, IsPortsTick, PlainEvent, Arrive, Tick, is_refused, IsEventInRange}
+use Rattle.hn_router.proofs.Names.{IsEdit, IsEventRule, IsEvent, IsTick}
+use Rattle.hn_rules.specs.Laws.{KeepsRouter, RefreshMakesRouter, AssigningKeeps, DelegatingKeeps, AddressingKeeps}
+use Rattle.hn_router.specs.Act.{Happened}
 use Rattle.hn_router.specs.Laws.{RouterStays}
-use Rattle.hn_rules.specs.Ticks.{IsTick}
 use Rattle.hn_router.proofs.Edits.{EndpointsKeep, GivenKeep, OthersKeep, edit_keeps}
 use Rattle.hn_router.proofs.Keeping.{router_due}
 

@@ -1,6 +1,6 @@
 -- Where an event does not happen, and where a handle has no router.
 use Rattle.std.specs.Prelude.{◌≡◌, ◌≢◌, ℕ, Option, Some, None, IfSome}
-use Rattle.std.proofs.Common.{refl, subst}
+use Rattle.hn_base.proofs.Names.{refl, subst}
 use Rattle.hn_router.specs.Act.{PlainEvent}
 use Rattle.hn_kept.specs.Kept.{Kept}
 use Rattle.hn_router_c.specs.Calls.{Acted}

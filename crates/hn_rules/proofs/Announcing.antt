@@ -1,37 +1,12 @@
 -- Two routers that say the same of their peers and of their own delegated prefixes, at whatever moments they published it,
 -- and that hold the same: they reach the same nodes, and see the same announced.
-use Rattle.std.proofs.Common.{◌≡◌, ◌≢◌, ◌∙◌, ◌⊎◌, ◌-◌, ◌<◌, ℕ, List, ◌∷◌, filter, nat_lt, Option, Some, None, inl, inr, refl, sym, ap, subst, arith}
-use Rattle.std.specs.Prelude.{Contains, ◌==◌}
-use Rattle.std.specs.Option.{option_map}
-use Rattle.std.specs.Ordering.{nat_cmp}
-use Rattle.std.proofs.lemmas.Bool.{cases_eq, cases_lt, eq-eqb, eqb-true, lt-ltb}
-use Rattle.std.proofs.lemmas.Cmp.{nat_cmp_total}
-use Rattle.std.proofs.lemmas.List.Elements.{Contains-append_left, Contains-append_right}
-use Rattle.std.proofs.lemmas.Option.{same_Some}
-use Rattle.hn_base.proofs.AscendingLists.{Contains-tail, Contains-map, sorted_parts}
-use Rattle.hn_base.proofs.Elements.{found_passes, in_filter, in_filter_map, from_filter_map, passing_found}
-use Rattle.hn_base.proofs.Keys.{same_node}
-use Rattle.hn_base.proofs.PartsAtPlaces.{one_of_ascending}
-use Rattle.hn_base.specs.Prefix.{PlainPrefix}
-use Rattle.hn_base.specs.declared.ids.NodeId.{NodeId}
-use Rattle.hn_data.specs.Peers.{HasPeer}
-use Rattle.hn_data.specs.declared.said.Delegation.{Delegation}
-use Rattle.hn_data.specs.declared.said.PeerLink.{PeerLink}
-use Rattle.hn_data.specs.declared.view.Entry.{Entry}
-use Rattle.hn_deleg.specs.Candidates.{IsPreferred}
-use Rattle.hn_deleg.specs.Live.{remaining, IsAnnounced, IsAnnouncedPrefix}
+use Rattle.hn_base.proofs.Names.{◌≡◌, ◌≢◌, ◌∙◌, ◌⊎◌, ◌-◌, ◌<◌, ℕ, List, ◌∷◌, filter, nat_lt, Option, Some, None, inl, inr, refl, sym, ap, subst, arith, ◌==◌, option_map, nat_cmp, cases_eq, cases_lt}
+use Rattle.hn_base.proofs.Names.{eq-eqb, eqb-true, lt-ltb, nat_cmp_total, Contains-append_left, Contains-append_right, same_Some, PlainPrefix}
+use Rattle.hn_rules.proofs.Names.{Contains, Contains-tail, Contains-map, sorted_parts, found_passes, in_filter, in_filter_map, from_filter_map, passing_found, same_node, one_of_ascending, NodeId}
+use Rattle.hn_rules.proofs.Names.{HasPeer, Delegation, PeerLink, Entry, IsPreferred, remaining, IsAnnouncedPrefix, IsReachable, seconds_left, OwnPrefix, HeldIsOfAnEntry, held, HeldNode, Stored, State}
+use Rattle.hn_rules.proofs.Names.{held_entry, own_entry, held_entries, nodes_of, entry_of, view_of, IsFresh, IsWell, IsRouter, seen_by}
+use Rattle.hn_deleg.specs.Live.{IsAnnounced}
 use Rattle.hn_graph.specs.Following.{SaysAsMuch, SayAsMuch, ReachabilityFollows}
-use Rattle.hn_graph.specs.Path.{IsReachable}
-use Rattle.hn_own.specs.Lifetimes.{seconds_left}
-use Rattle.hn_own.specs.declared.own_prefixes.OwnPrefix.{OwnPrefix}
-use Rattle.hn_store.specs.Laws.{HeldIsOfAnEntry}
-use Rattle.hn_store.specs.Nodes.{held}
-use Rattle.hn_store.specs.declared.stored.HeldNode.{HeldNode}
-use Rattle.hn_store.specs.declared.stored.Stored.{Stored}
-use Rattle.hn_rules.specs.declared.state.State.{State}
-use Rattle.hn_rules.specs.Nodes.{held_entry, own_entry, held_entries, nodes_of, entry_of, view_of}
-use Rattle.hn_rules.specs.Router.{IsFresh, IsWell, IsRouter}
-use Rattle.hn_rules.specs.Seen.{seen_by}
 use Rattle.hn_rules.proofs.Entries.{entry_own, entry_other, entry_held}
 use Rattle.hn_rules.proofs.LawDelegated.{DelegationLaws, said_too}
 use Rattle.hn_rules.proofs.LawPublished.{peer_from, peer_in}

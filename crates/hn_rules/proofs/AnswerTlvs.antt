@@ -1,28 +1,10 @@
 -- What is answered is a TLV.
-use Rattle.std.proofs.Common.{◌≡◌, ◌≤◌, ◌<◌, ◌-◌, ◌^◌, ℕ, Bool, true, false, cond, List, [], ◌++◌, length, Option, Some, None, lit≤, refl, sym, subst, arith, length-append}
-use Rattle.std.specs.Prelude.{All, ◌==◌}
-use Rattle.std.specs.Option.{option_map}
-use Rattle.std.proofs.lemmas.List.Elements.{All-nil, All-append, All-contains}
-use Rattle.hn_base.proofs.BigEndian.{number_bytes}
-use Rattle.hn_base.specs.Byte.{IsByte}
-use Rattle.hn_base.specs.declared.ids.NodeId.{NodeId}
-use Rattle.hn_hash.specs.Laws.{HashHasEightBytes}
-use Rattle.hn_tlv.specs.Grammar.{IsTlv}
-use Rattle.hn_typed.specs.Fields.{word, IsHash}
-use Rattle.hn_typed.specs.Item.{PlainItem, RequestNetwork, RequestNode, NetworkState, NodeState}
+use Rattle.hn_base.proofs.Names.{◌≡◌, ◌≤◌, ◌<◌, ◌-◌, ◌^◌, ℕ, Bool, true, false, cond, List, [], ◌++◌, length, Option, Some, None, lit≤, refl, sym, subst, arith, length-append, All, ◌==◌, option_map}
+use Rattle.hn_base.proofs.Names.{All-nil, All-append, All-contains, IsByte}
+use Rattle.hn_rules.proofs.Names.{number_bytes, NodeId, HashHasEightBytes, IsTlv, word, IsHash, PlainItem, RequestNetwork, RequestNode, NetworkState, NodeState, value_of, tlv_of, IsWritable}
+use Rattle.hn_rules.proofs.Names.{HeldIsOfAnEntry, held, IsIntact, Stored, HeldNode, Subject, State, IsAnswerAbout, age_at, sent_age, sent_data, own_state, held_state, state_item, IsWell, IsHashed}
 use Rattle.hn_typed.specs.Table.{InRange}
-use Rattle.hn_typed.specs.Written.{value_of, tlv_of, IsWritable}
-use Rattle.hn_store.specs.Laws.{HeldIsOfAnEntry}
-use Rattle.hn_store.specs.Nodes.{held, IsIntact}
-use Rattle.hn_store.specs.declared.stored.Stored.{Stored}
-use Rattle.hn_store.specs.declared.stored.HeldNode.{HeldNode}
-use Rattle.hn_rules.specs.declared.answers.Subject.{Subject}
 use Rattle.hn_rules.specs.declared.answers.Subject.TheVariants as subject
-use Rattle.hn_rules.specs.declared.state.State.{State}
-use Rattle.hn_rules.specs.Changes.{IsAnswerAbout}
-use Rattle.hn_rules.specs.Nodes.{age_at}
-use Rattle.hn_rules.specs.Requests.{sent_age, sent_data, own_state, held_state, state_item}
-use Rattle.hn_rules.specs.Router.{IsWell, IsHashed}
 use Rattle.hn_rules.proofs.LawsFromBelow.{held_all}
 use Rattle.hn_rules.proofs.LawPublished.{ReadLaws, own_bytes}
 

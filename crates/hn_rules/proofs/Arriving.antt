@@ -1,33 +1,12 @@
 -- What an arrival runs, and the words that it takes.
-use Rattle.std.proofs.Common.{◌≡◌, ◌≤◌, ◌∙◌, ℕ, Bool, true, false, cond, List, [], ◌∷◌, ◌++◌, length, take, Option, Some, None, ap, refl, subst, sym}
-use Rattle.std.specs.Prelude.{◌==◌, is_some}
-use Rattle.std.proofs.lemmas.Bool.{cond_both}
-use Rattle.hn_base.specs.Words.{Drew}
-use Rattle.hn_base.specs.declared.ids.NodeId.{NodeId}
-use Rattle.hn_base.specs.declared.ids.EpId.{EpId}
-use Rattle.hn_dncp.specs.declared.port.Port.{Port}
-use Rattle.hn_dncp.specs.declared.greet.Greet.{Greet}
-use Rattle.hn_dncp.specs.declared.greet.Greet.TheVariants.{Known, Added, Full, Unknown}
-use Rattle.hn_dncp.specs.Greet.{greeting}
-use Rattle.hn_dncp.specs.Ask.{may_ask, asked}
-use Rattle.hn_tlv.specs.Grammar.{PlainTlv, IsTlvList, IsTlvAt}
-use Rattle.hn_typed.specs.Item.{PlainItem}
-use Rattle.hn_own.specs.Ports.{port_at}
-use Rattle.hn_rules.specs.declared.answers.Subject.{Subject}
+use Rattle.hn_base.proofs.Names.{◌≡◌, ◌≤◌, ◌∙◌, ℕ, Bool, true, false, cond, List, [], ◌∷◌, ◌++◌, length, take, Option, Some, None, ap, refl, subst, sym, ◌==◌, cond_both, Drew, Then}
+use Rattle.hn_rules.proofs.Names.{is_some, NodeId, EpId, Port, Greet, Known, Added, Full, Unknown, greeting, may_ask, asked, PlainTlv, IsTlvList, IsTlvAt, PlainItem, port_at, Subject, Running, Origin}
+use Rattle.hn_rules.proofs.Names.{with_answer, state_item, with_some_answer, with_state, IsNetworkRequest, IsFirstFreeId, IsSecondClaim, AtPort, Ran, noted, with_port, with_words, words_of, met}
+use Rattle.hn_rules.proofs.Names.{greeting_port, named, node_endpoint, Publishes, IsRefresh, IsTlvRule, IsTlvs, IsAnswering, IsArrival, ran_plain, ran_both, each_words, on_some_words}
 use Rattle.hn_rules.specs.declared.answers.Subject.TheVariants as subject
 use Rattle.hn_typed.specs.Item as item
-use Rattle.hn_rules.specs.declared.running.Running.{Running}
-use Rattle.hn_rules.specs.declared.running.Origin.{Origin}
-use Rattle.hn_rules.specs.Answers.{with_answer}
-use Rattle.hn_rules.specs.Requests.{state_item, with_some_answer, with_state, IsNetworkRequest}
 use Rattle.hn_rules.specs.declared.done.Note.TheVariants.{Ignored}
-use Rattle.hn_rules.specs.Claim.{IsFirstFreeId, IsSecondClaim}
-use Rattle.hn_base.specs.Rules.{Then}
-use Rattle.hn_rules.specs.Rules.{AtPort, Ran, noted, with_port, with_words, words_of}
-use Rattle.hn_rules.specs.NodeEndpoint.{met, greeting_port, named, node_endpoint}
-use Rattle.hn_rules.specs.Refresh.{Publishes, IsRefresh}
-use Rattle.hn_rules.specs.Arrival.{IsTlvRule, IsTlvs, IsAnswering, IsArrival}
-use Rattle.hn_base.proofs.RulesInTurn.{ran_plain, ran_both, ran_more, each_words, on_some_words}
+use Rattle.hn_base.proofs.RulesInTurn.{ran_more}
 
 pub some_answer_words : (about : Subject) (item : Option PlainItem) (r : Running) → (with_some_answer about item r).done.words ≡ r.done.words
 some_answer_words about None r = refl

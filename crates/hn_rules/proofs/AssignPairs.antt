@@ -1,28 +1,10 @@
 -- What is asked for a router's posts, and what the subroutine makes of it.
-use Rattle.std.proofs.Common.{◌≡◌, ◌↔◌, ℕ, List, Contains, Result, Ok, Err, sym, subst}
-use Rattle.std.specs.Prelude.{All, IfOk}
-use Rattle.std.specs.Cmp.{IsTotalOrder}
-use Rattle.std.proofs.lemmas.List.Elements.{All-contains}
-use Rattle.hn_base.specs.declared.ids.EpId.{EpId}
-use Rattle.hn_base.specs.declared.memory.NoMemory.{NoMemory}
-use Rattle.hn_base.specs.Ascending.{IsExact}
-use Rattle.hn_data.specs.View.{PlainView}
-use Rattle.hn_deleg.specs.declared.delegated.Delegated.{Delegated}
-use Rattle.hn_deleg.specs.Used.{AreUsable}
-use Rattle.hn_assign.specs.declared.assigned.Wish.{Wish}
-use Rattle.hn_assign.specs.declared.held.Held.{Held}
+use Rattle.hn_base.proofs.Names.{◌≡◌, ◌↔◌, ℕ, List, Contains, Result, Ok, Err, sym, subst, All, IfOk, IsTotalOrder, All-contains, IsExact}
+use Rattle.hn_rules.proofs.Names.{EpId, NoMemory, PlainView, Delegated, AreUsable, Wish, Held, IsInDelegated, HasOwnPriority, assigned_pair, pair_cmp, IsAscending, IsWished, IsSubroutine}
+use Rattle.hn_rules.proofs.Names.{AssignedAreWished, AreHeldPairs, FewPosts, ArePorts, posts_of, State, seen_by, IsWishAt, AreAsked, IsRunAssigned}
 use Rattle.hn_assign.specs.declared.held.Ran.{Ran}
-use Rattle.hn_assign.specs.Facts.{AreWishes, IsInDelegated, HasOwnPriority}
-use Rattle.hn_assign.specs.Pair.{assigned_pair, backoff_pair, pair_cmp, IsAscending, IsWished}
-use Rattle.hn_assign.specs.Subroutine.{IsSubroutine}
-use Rattle.hn_assign.specs.Laws.{AssignedAreWished}
-use Rattle.hn_own.specs.HeldPairs.{AreHeldPairs}
-use Rattle.hn_own.specs.Laws.{FewPosts}
-use Rattle.hn_own.specs.Ports.{ArePorts}
-use Rattle.hn_own.specs.Posts.{posts_of}
-use Rattle.hn_rules.specs.declared.state.State.{State}
-use Rattle.hn_rules.specs.Seen.{seen_by}
-use Rattle.hn_rules.specs.Assigning.{IsWishAt, AreAsked, IsRunAssigned}
+use Rattle.hn_assign.specs.Facts.{AreWishes}
+use Rattle.hn_assign.specs.Pair.{backoff_pair}
 use Rattle.hn_rules.proofs.LawPairs.{wished_few}
 
 -- ---- what is asked

@@ -1,27 +1,9 @@
 -- An assignment of prefixes: the words that it takes, and what it leaves.
-use Rattle.std.proofs.Common.{◌≡◌, ◌∙◌, ℕ, Bool, List, Option, Decides, sym, ap, subst}
-use Rattle.std.specs.Prelude.{◌==◌, ◌&&◌, nat_eq}
+use Rattle.hn_base.proofs.Names.{◌≡◌, ◌∙◌, ℕ, Bool, List, Option, Decides, sym, ap, subst, ◌==◌, ◌&&◌, nat_eq, option_eq, beq, Decides-and, Decides-like, Decides-eqb, Drew, Took}
+use Rattle.hn_rules.proofs.Names.{Assigned, Backoff, Held, Running, State, IsWishAt, IsRunAssigned, IsAssigning, seen_by, IsSubroutine, Wish, PlainView, AreUsable, Nodes, Ran, with_words, IsRefreshed}
 use Rattle.std.specs.Cmp.{booleans_Decides}
-use Rattle.std.specs.Option.{option_eq}
-use Rattle.std.proofs.Math.Bool.{beq}
-use Rattle.std.proofs.lemmas.Bool.Decides.{Decides-and, Decides-like, Decides-eqb}
 use Rattle.hn_base.proofs.DecidingTests.{option_decided}
-use Rattle.hn_base.specs.Words.{Drew, Took}
-use Rattle.hn_assign.specs.declared.assigned.Assigned.{Assigned}
-use Rattle.hn_assign.specs.declared.backoff.Backoff.{Backoff}
-use Rattle.hn_assign.specs.declared.held.Held.{Held}
 use Rattle.hn_assign.specs.declared.held.Ran.{Ran as Left}
-use Rattle.hn_rules.specs.declared.running.Running.{Running}
-use Rattle.hn_rules.specs.declared.state.State.{State}
-use Rattle.hn_rules.specs.Assigning.{IsWishAt, IsRunAssigned, IsAssigning}
-use Rattle.hn_rules.specs.Seen.{seen_by}
-use Rattle.hn_assign.specs.Subroutine.{IsSubroutine}
-use Rattle.hn_assign.specs.declared.assigned.Wish.{Wish}
-use Rattle.hn_data.specs.View.{PlainView}
-use Rattle.hn_deleg.specs.Used.{AreUsable}
-use Rattle.hn_store.specs.Nodes.{Nodes}
-use Rattle.hn_rules.specs.Rules.{Ran, with_words}
-use Rattle.hn_rules.specs.Router.{IsRefreshed}
 use Rattle.hn_base.proofs.Prefixes.{is_one_prefix, prefix_decided}
 
 -- ---- when assignments are the same

@@ -1,13 +1,7 @@
 -- The rule of an endpoint, where the endpoint was found.
-use Rattle.std.proofs.Common.{◌≡◌, ◌∙◌, ℕ, Bool, true, false, cond, List, [], ◌∷◌, Option, Some, ap, refl, subst}
+use Rattle.hn_base.proofs.Names.{◌≡◌, ◌∙◌, ℕ, Bool, true, false, cond, List, [], ◌∷◌, Option, Some, ap, refl, subst, eqb-true, OnSome}
+use Rattle.hn_rules.proofs.Names.{EpId, Port, is_port, port_at, Running, Rule, AtPort}
 use Rattle.std.specs.List.{find}
-use Rattle.std.proofs.lemmas.Bool.{eqb-true}
-use Rattle.hn_base.specs.Rules.{OnSome}
-use Rattle.hn_base.specs.declared.ids.EpId.{EpId}
-use Rattle.hn_dncp.specs.declared.port.Port.{Port}
-use Rattle.hn_own.specs.Ports.{is_port, port_at}
-use Rattle.hn_rules.specs.declared.running.Running.{Running}
-use Rattle.hn_rules.specs.Rules.{Rule, AtPort}
 
 -- the rule of an endpoint that is attached
 pub at_port : (at : EpId) (port : Port) (ports : List Port) (rule : Port → Rule) (before after : Running) → Some port ≡ port_at at ports

@@ -1,30 +1,11 @@
 -- When something is next due for a router.
-use Rattle.std.proofs.Common.{◌≡◌, ◌∙◌, ◌⊎◌, ℕ, ◌^◌, List, Option, Some, None, Result, Ok, Err, IfOk, sym, ap, subst}
-use Rattle.std.specs.List.{filter_map}
-use Rattle.hn_base.proofs.NextDue.{sooner_same, sooner_both, sooner_is_one}
-use Rattle.hn_base.specs.Sooner.{IsSooner, IsOfElement}
-use Rattle.hn_base.specs.declared.ids.EpId.{EpId}
-use Rattle.hn_base.specs.declared.memory.NoMemory.{NoMemory}
-use Rattle.hn_timers.specs.Due.{IsExpiryMoment}
-use Rattle.hn_typed.specs.Item.{PlainItem}
-use Rattle.hn_data.specs.Laws.{ItemsAreUnique}
-use Rattle.hn_data.specs.Said.{interval_of, keep_alive_of}
-use Rattle.hn_data.specs.View.{PlainView}
-use Rattle.hn_data.specs.declared.view.Entry.{Entry}
-use Rattle.hn_dncp.specs.declared.peers.Neighbour.{Neighbour}
-use Rattle.hn_store.specs.Due.{IsForgetting}
-use Rattle.hn_store.specs.Nodes.{held}
-use Rattle.hn_store.specs.declared.stored.Stored.{Stored}
-use Rattle.hn_graph.specs.Later.{IsAgeLimit}
-use Rattle.hn_deleg.specs.Due.{IsLifetimeEnd}
-use Rattle.hn_assign.specs.Due.{IsHeldDue}
-use Rattle.hn_own.specs.Due.{IsOwnEnd}
-use Rattle.hn_rules.specs.declared.state.State.{State}
-use Rattle.hn_rules.specs.Due.{IsPeerEnd, IsOwnAgeDue, IsKeptDue, IsSeenDue, IsDueAtPort, IsDueAt, IsNextDue}
+use Rattle.hn_base.proofs.Names.{◌≡◌, ◌∙◌, ◌⊎◌, ℕ, ◌^◌, List, Option, Some, None, Result, Ok, Err, sym, ap, subst, filter_map, IsSooner, IsOfElement}
+use Rattle.hn_rules.proofs.Names.{sooner_both, EpId, NoMemory, IsExpiryMoment, PlainItem, ItemsAreUnique, interval_of, keep_alive_of, PlainView, Entry, Neighbour, IsForgetting, held, Stored}
+use Rattle.hn_rules.proofs.Names.{IsAgeLimit, IsLifetimeEnd, IsHeldDue, IsOwnEnd, State, IsPeerEnd, IsDueAtPort, IsDueAt, view_of, seen_by, HasInterval}
+use Rattle.std.proofs.Common.{IfOk}
+use Rattle.hn_base.proofs.NextDue.{sooner_same, sooner_is_one}
+use Rattle.hn_rules.specs.Due.{IsOwnAgeDue, IsKeptDue, IsSeenDue, IsNextDue}
 use Rattle.hn_rules.specs.Laws.{NextDueIsOne}
-use Rattle.hn_rules.specs.Nodes.{view_of}
-use Rattle.hn_rules.specs.Seen.{seen_by}
-use Rattle.hn_rules.specs.Tick.{HasInterval}
 
 -- a peer has one keep-alive interval
 one_interval : ItemsAreUnique → (stored : Option Stored) (e : EpId) (m n : ℕ) → HasInterval stored e m → HasInterval stored e n → m ≡ n

@@ -1,21 +1,7 @@
 -- Each change keeps the moment, and which endpoints are attached.
-use Rattle.std.proofs.Common.{◌≡◌, ◌∙◌, ℕ, List, [], ◌∷◌, refl, sym}
-use Rattle.std.proofs.lemmas.Bool.{cond_both, eqb-true}
-use Rattle.hn_base.specs.declared.ids.EpId.{EpId}
-use Rattle.hn_base.proofs.Keys.{same_id}
-use Rattle.hn_tlv.specs.Grammar.{PlainTlv}
-use Rattle.hn_dncp.specs.declared.port.Port.{Port}
-use Rattle.hn_own.specs.Ports.{is_port, put_port, endpoints_of}
-use Rattle.hn_rules.specs.declared.running.Running.{Running}
-use Rattle.hn_rules.specs.declared.running.Origin.{Origin}
-use Rattle.hn_rules.specs.Rules.{Rule}
-use Rattle.hn_rules.specs.Refresh.{IsRefresh}
-use Rattle.hn_rules.specs.Arrival.{IsArrival}
-use Rattle.hn_rules.specs.Assigning.{IsAssigning}
-use Rattle.hn_rules.specs.Tick.{IsExpiry, IsPortsTick}
-use Rattle.hn_rules.specs.Events.{IsRestarting}
-use Rattle.hn_rules.specs.Changes.{ChangePort, port_after, EachKeeps}
-use Rattle.hn_rules.specs.Laws.{KeepsEndpoints}
+use Rattle.hn_base.proofs.Names.{◌≡◌, ◌∙◌, ℕ, List, [], ◌∷◌, refl, sym, cond_both, eqb-true}
+use Rattle.hn_rules.proofs.Names.{EpId, same_id, PlainTlv, Port, is_port, put_port, endpoints_of, Running, Origin, Rule, IsRefresh, IsArrival, IsAssigning, IsExpiry, IsPortsTick, IsRestarting}
+use Rattle.hn_rules.proofs.Names.{ChangePort, port_after, EachKeeps, KeepsEndpoints}
 use Rattle.hn_rules.proofs.Leads.{Walk}
 use Rattle.hn_rules.proofs.Walk.{refresh_walk, arrival_walk, expiry_walk, assigning_walk, ports_walk, restarting_walk}
 

@@ -1,15 +1,7 @@
 -- What a router sees of an identifier.
-use Rattle.std.proofs.Common.{◌≡◌, ◌∙◌, Option, Some, None, inl, inr, sym, ap, ◌==◌}
-use Rattle.std.specs.Option.{option_map}
-use Rattle.std.proofs.lemmas.Bool.{eq-eqb, ne_eqb, cases_eq, cond-true, cond-false}
-use Rattle.std.proofs.lemmas.Option.{same_Some}
-use Rattle.hn_base.proofs.Keys.{same_node}
-use Rattle.hn_base.specs.declared.ids.NodeId.{NodeId}
-use Rattle.hn_data.specs.declared.view.Entry.{Entry}
-use Rattle.hn_store.specs.Nodes.{held}
-use Rattle.hn_store.specs.declared.stored.Stored.{Stored}
-use Rattle.hn_rules.specs.declared.state.State.{State}
-use Rattle.hn_rules.specs.Nodes.{held_entry, own_entry, entry_of}
+use Rattle.hn_base.proofs.Names.{◌≡◌, ◌∙◌, Option, Some, None, inl, inr, sym, ap, option_map, eq-eqb, ne_eqb, cases_eq, cond-true, cond-false, same_Some}
+use Rattle.hn_rules.proofs.Names.{same_node, NodeId, Entry, held, Stored, State, held_entry, own_entry, entry_of}
+use Rattle.std.proofs.Common.{◌==◌}
 
 pub entry_own : (s : State) (id : NodeId) → id.0 ≡ s.id.0 → entry_of s id ≡ Some (own_entry s)
 entry_own s id is = cond-true (id.0 == s.id.0) _ _ (eq-eqb id.0 s.id.0 is)

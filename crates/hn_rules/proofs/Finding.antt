@@ -1,12 +1,8 @@
 -- The first element that passes a test, and lists without some elements.
-use Rattle.std.proofs.Common.{◌≡◌, ◌≤◌, suc, Bool, true, false, cond, List, [], ◌∷◌, length, filter, Some, None, inl, inr, refl, sym, subst, arith}
-use Rattle.std.specs.Prelude.{All, find}
-use Rattle.std.specs.List.{AllPairs}
-use Rattle.std.proofs.lemmas.Bool.{cond_both}
-use Rattle.std.proofs.lemmas.List.Elements.{All-cons, All-head, All-tail, All-contains}
+use Rattle.hn_base.proofs.Names.{◌≡◌, ◌≤◌, suc, Bool, true, false, cond, List, [], ◌∷◌, length, filter, Some, None, inl, inr, refl, sym, subst, arith, All, find, AllPairs, cond_both, All-cons}
+use Rattle.hn_base.proofs.Names.{All-head, All-tail, All-contains}
+use Rattle.hn_rules.proofs.Names.{Without, found_passes}
 use Rattle.std.proofs.lemmas.List.Kept.{AllPairs-cons}
-use Rattle.hn_rules.specs.Tick.{Without}
-use Rattle.hn_base.proofs.Elements.{found_passes}
 
 module _ {A : Type 0} where
   -- what holds of each holds of the one that is found

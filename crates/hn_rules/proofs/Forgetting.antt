@@ -1,29 +1,11 @@
 -- Nodes that are forgotten were not reachable, and so nothing changes without them.
-use Rattle.std.proofs.Common.{◌≡◌, ◌∙◌, ℕ, Bool, true, false, cond, not, List, [], ◌∷◌, ◌++◌, map, filter, get_or, nat_lt, Option, Some, None, inl, inr, refl, sym, ap, subst}
-use Rattle.std.specs.Prelude.{All, is_none, ◌==◌, Contains, ◌⊎◌, ◌+◌, nat_le}
-use Rattle.std.specs.Option.{option_map, option_map_or}
-use Rattle.std.specs.List.{filter_map, cons_option}
-use Rattle.std.proofs.lemmas.Bool.{eq-eqb, eqb-true}
-use Rattle.std.proofs.lemmas.List.Elements.{All-head, All-tail, All-filter, All-weaker, All-contains, All-contains_itself, Contains-append_left, Contains-append_right, Contains-append_cases}
-use Rattle.std.proofs.lemmas.List.Folds.{list_any_at}
-use Rattle.hn_base.specs.declared.ids.NodeId.{NodeId}
-use Rattle.hn_base.proofs.AscendingLists.{Contains-map, Contains-from_map}
-use Rattle.hn_base.proofs.Elements.{in_filter, from_filter}
-use Rattle.hn_hash.specs.Hash.{hash_of}
+use Rattle.hn_base.proofs.Names.{◌≡◌, ◌∙◌, ℕ, Bool, true, false, cond, not, List, [], ◌∷◌, ◌++◌, map, filter, get_or, nat_lt, Option, Some, None, inl, inr, refl, sym, ap, subst, All, is_none, ◌==◌}
+use Rattle.hn_base.proofs.Names.{nat_le, option_map, option_map_or, filter_map, cons_option, eq-eqb, eqb-true, All-head, All-tail, All-filter, All-weaker, All-contains, All-contains_itself}
+use Rattle.hn_base.proofs.Names.{Contains-append_left, Contains-append_right, Contains-append_cases, list_any_at}
+use Rattle.hn_rules.proofs.Names.{Contains, ◌⊎◌, NodeId, Contains-map, Contains-from_map, in_filter, from_filter, hash_of, Part, Entry, IsReachable, IsLike, KeepsReach, ReachabilityStays, held}
+use Rattle.hn_rules.proofs.Names.{stored_part, is_among, is_forgotten, remembered, Stored, HeldNode, State, Running, held_entry, own_entry, IsReach, part_of, parts_of, forgetting, IsRefreshed}
+use Rattle.std.specs.Prelude.{◌+◌}
 use Rattle.hn_hash.specs.Network.{part_text}
-use Rattle.hn_hash.specs.declared.part.Part.{Part}
-use Rattle.hn_data.specs.declared.view.Entry.{Entry}
-use Rattle.hn_graph.specs.Path.{IsReachable}
-use Rattle.hn_graph.specs.Laws.{IsLike, KeepsReach, ReachabilityStays}
-use Rattle.hn_store.specs.Nodes.{held, stored_part}
-use Rattle.hn_store.specs.Loss.{is_among, is_forgotten, remembered}
-use Rattle.hn_store.specs.declared.stored.Stored.{Stored}
-use Rattle.hn_store.specs.declared.stored.HeldNode.{HeldNode}
-use Rattle.hn_rules.specs.declared.state.State.{State}
-use Rattle.hn_rules.specs.declared.running.Running.{Running}
-use Rattle.hn_rules.specs.Nodes.{held_entry, own_entry, IsReach, part_of, parts_of}
-use Rattle.hn_rules.specs.Tick.{forgetting}
-use Rattle.hn_rules.specs.Router.{IsRefreshed}
 use Rattle.hn_base.proofs.PassingElements.{find-filter}
 
 -- ---- lists

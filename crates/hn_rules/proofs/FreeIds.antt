@@ -1,17 +1,12 @@
 -- Of more identifiers in a row than are taken, one is free.
-use Rattle.std.proofs.Common.{◌≡◌, ◌<◌, ◌≤◌, ◌+◌, ◌%◌, ◌^◌, ℕ, Bool, true, false, List, [], ◌∷◌, length, map, get_or, Contains, sym, ◌∙◌, ⊎_elim, arith, below_more, eqb}
-use Rattle.std.specs.Prelude.{◌==◌, ◌||◌, is_some, All}
-use Rattle.std.specs.List.{IsDistinct, range_with_len}
-use Rattle.std.proofs.lemmas.Bool.{or_cases, eqb-true, ne_eqb, false_from_ne_true, cases_Bool}
-use Rattle.std.proofs.lemmas.Bool.Decides.{Decides-eqb}
+use Rattle.hn_base.proofs.Names.{◌≡◌, ◌<◌, ◌≤◌, ◌+◌, ◌%◌, ◌^◌, ℕ, Bool, true, false, List, [], ◌∷◌, length, map, get_or, Contains, sym, ◌∙◌, ⊎_elim, arith, below_more, eqb, ◌==◌, ◌||◌, All}
+use Rattle.hn_base.proofs.Names.{IsDistinct, or_cases, eqb-true, ne_eqb, false_from_ne_true, cases_Bool, Decides-eqb, length-map, All-contains, All-map}
+use Rattle.hn_rules.proofs.Names.{is_some, Contains-tail, held, HeldNode}
+use Rattle.std.specs.List.{range_with_len}
 use Rattle.std.proofs.lemmas.Cmp.{nat_eq_equiv}
-use Rattle.std.proofs.lemmas.List.{length-map}
-use Rattle.std.proofs.lemmas.List.Elements.{All-contains, All-map}
 use Rattle.std.proofs.lemmas.List.FromFn.{length-range_with_len, get_or-range_with_len, length-map-range_with_len, get_or-map-range_with_len}
 use Rattle.std.proofs.lemmas.Map.Keys.{IsDistinct-from_apart}
-use Rattle.hn_base.proofs.AscendingLists.{Contains-tail}
-use Rattle.hn_store.specs.Nodes.{held, ids_of_held}
-use Rattle.hn_store.specs.declared.stored.HeldNode.{HeldNode}
+use Rattle.hn_store.specs.Nodes.{ids_of_held}
 use Rattle.hn_base.proofs.Pigeonhole.{length-le_from_Contains}
 
 -- the identifier so many after a word

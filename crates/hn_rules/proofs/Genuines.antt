@@ -1,20 +1,9 @@
 -- What a router holds, answers and sends stays published, or texts that were published collide.
-use Rattle.std.proofs.Common.{List, [], ◌∷◌, ◌++◌, inl, inr, refl, sym, subst}
-use Rattle.std.specs.Prelude.{All, Contains}
-use Rattle.std.proofs.lemmas.Bool.{cond_both}
-use Rattle.std.proofs.lemmas.List.{append-nil}
-use Rattle.std.proofs.lemmas.List.Elements.{All-nil, All-append, All-push, All-weaker, Contains-append_right, Contains-push}
-use Rattle.hn_tlv.specs.Grammar.{PlainTlv, spelling}
-use Rattle.hn_typed.specs.Written.{tlv_of}
-use Rattle.hn_rules.specs.declared.done.Outgoing.{Outgoing}
-use Rattle.hn_rules.specs.declared.done.Publication.{Publication}
-use Rattle.hn_rules.specs.declared.running.Running.{Running}
-use Rattle.hn_rules.specs.Answers.{is_answered}
-use Rattle.hn_rules.specs.Changes.{ChangeTable, PutId, Publish, AddAnswer, AddSends, ForgetAnswers, Change, change, IsAllowed, EachKeeps}
-use Rattle.hn_rules.specs.Genuine.{TextsCollide, TlvsSayPublished, BytesSayPublished, IsGenuineAnswer, IsGenuineSoFar, IsGenuineOrCollides}
-use Rattle.hn_rules.specs.Grows.{GrowsFrom}
-use Rattle.hn_rules.specs.Laws.{ChangesOnlyAdd, ChangesKeepHashed, ChangesKeepGenuine}
-use Rattle.hn_rules.specs.Router.{IsHashed}
+use Rattle.hn_base.proofs.Names.{List, [], ◌∷◌, ◌++◌, inl, inr, refl, sym, subst, All, cond_both, append-nil, All-nil, All-append, All-push, All-weaker, Contains-append_right, Contains-push}
+use Rattle.hn_rules.proofs.Names.{Contains, PlainTlv, spelling, tlv_of, Outgoing, Publication, Running, is_answered, ChangeTable, PutId, Publish, AddAnswer, AddSends, ForgetAnswers, Change, change}
+use Rattle.hn_rules.proofs.Names.{IsAllowed, EachKeeps, TextsCollide, TlvsSayPublished, BytesSayPublished, IsGenuineAnswer, GrowsFrom, ChangesOnlyAdd, ChangesKeepHashed, IsHashed}
+use Rattle.hn_rules.specs.Genuine.{IsGenuineSoFar, IsGenuineOrCollides}
+use Rattle.hn_rules.specs.Laws.{ChangesKeepGenuine}
 use Rattle.hn_rules.proofs.Published.{includes_front, includes_more, collide_more, holds_more, tlvs_more, bytes_more, answer_more, TableLaws, table_holds}
 use Rattle.hn_rules.proofs.Sayings.{SayLaws, answer_genuine, sends_say}
 

@@ -1,8 +1,6 @@
 -- What came of an event only grows.
-use Rattle.std.proofs.Common.{List, ◌++◌, refl, append_assoc}
-use Rattle.hn_rules.specs.Changes.{PutId, Publish, AddSends, TakeNote, TakeWords}
-use Rattle.hn_rules.specs.Grows.{BeginsWith}
-use Rattle.hn_rules.specs.Laws.{ChangesOnlyAdd}
+use Rattle.hn_base.proofs.Names.{List, ◌++◌, refl, append_assoc}
+use Rattle.hn_rules.proofs.Names.{PutId, Publish, AddSends, TakeNote, TakeWords, BeginsWith, ChangesOnlyAdd}
 
 longer : {A : Type 0} (front list more : List A) → BeginsWith front list → BeginsWith front (list ++ more)
 longer front list more (rest, is) = (rest ++ more, rw (is, append_assoc) refl)

@@ -1,9 +1,7 @@
 -- The network state hash of a router is one.
-use Rattle.std.proofs.Common.{sym, subst}
-use Rattle.hn_hash.specs.Laws.{HashHasEightBytes}
-use Rattle.hn_typed.specs.Fields.{IsHash}
-use Rattle.hn_rules.specs.Changes.{PutHash}
-use Rattle.hn_rules.specs.Laws.{RouterIsHashed, ChangesKeepWell, ChangesKeepHashed}
+use Rattle.hn_base.proofs.Names.{sym, subst}
+use Rattle.hn_rules.proofs.Names.{HashHasEightBytes, IsHash, PutHash, ChangesKeepWell, ChangesKeepHashed}
+use Rattle.hn_rules.specs.Laws.{RouterIsHashed}
 
 pub router_hashed : HashHasEightBytes → RouterIsHashed
 router_hashed eight s router = record { well = router.well; hash = subst IsHash (sym router.refreshed.hashed) (eight _) }

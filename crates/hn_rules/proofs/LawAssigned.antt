@@ -1,15 +1,8 @@
 -- Assignments and backoffs stay what a router holds when prefixes are assigned.
-use Rattle.std.specs.Cmp.{IsTotalOrder}
-use Rattle.std.proofs.lemmas.List.Elements.{All-contains}
-use Rattle.hn_base.specs.Ascending.{IsExact}
+use Rattle.hn_base.proofs.Names.{IsTotalOrder, All-contains, IsExact}
+use Rattle.hn_rules.proofs.Names.{IsWished, assigned_pair, pair_cmp, AssignedAreWished, FewPosts, ArePorts, State, IsRunAssigned, seen_by}
 use Rattle.hn_assign.specs.declared.held.Ran.{Ran as Assigned}
-use Rattle.hn_assign.specs.Pair.{IsWished, assigned_pair, pair_cmp}
-use Rattle.hn_assign.specs.Laws.{SubroutineKeepsInside, SubroutineKeepsPast, SubroutineKeepsPriority, AssignedAscend, BackoffsAscend, AssignedAreWished}
-use Rattle.hn_own.specs.Laws.{FewPosts}
-use Rattle.hn_own.specs.Ports.{ArePorts}
-use Rattle.hn_rules.specs.declared.state.State.{State}
-use Rattle.hn_rules.specs.Assigning.{IsRunAssigned}
-use Rattle.hn_rules.specs.Seen.{seen_by}
+use Rattle.hn_assign.specs.Laws.{SubroutineKeepsInside, SubroutineKeepsPast, SubroutineKeepsPriority, AssignedAscend, BackoffsAscend}
 use Rattle.hn_rules.proofs.LawPairs.{wished_few}
 use Rattle.hn_rules.proofs.PartsOfRouters.{AreHeldWell}
 

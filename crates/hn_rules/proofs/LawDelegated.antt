@@ -1,29 +1,14 @@
 -- The delegated prefixes that own node data announce.
-use Rattle.std.proofs.Common.{◌≡◌, ◌∙◌, ◌<◌, ◌^◌, ℕ, List, [], ◌∷◌, ◌++◌, length, map, replicate, Option, Some, None, inl, inr, refl, sym, ap, subst, arith}
-use Rattle.std.specs.Prelude.{All, Contains}
-use Rattle.std.specs.Int.{w32, w128, to_be_bytes, from_be_bytes}
-use Rattle.std.specs.List.{filter_map, flat_map}
-use Rattle.std.proofs.lemmas.List.{length-take, append-nil}
-use Rattle.std.proofs.lemmas.List.Elements.{All-contains, Contains-append_left, Contains-append_right, filter_map-append}
-use Rattle.std.proofs.lemmas.Nat.{from_be_bytes-to_be_bytes_4}
-use Rattle.hn_base.proofs.AscendingLists.{Contains-head, Contains-tail, Contains-cases, Contains-one, nothing_in}
-use Rattle.hn_base.proofs.Elements.{all_of, in_filter_map, from_filter_map, none_given, given_by_parts}
-use Rattle.hn_base.specs.Byte.{IsByte}
-use Rattle.hn_base.specs.Prefix.{PlainPrefix}
-use Rattle.hn_tlv.specs.Grammar.{PlainTlv, IsTlv, IsTlvList, header, padding, spelling, unpadded}
-use Rattle.hn_tlv.specs.Laws.{ListIsUnique}
-use Rattle.hn_typed.specs.Fields.{word, bytes_for, prefix_field}
-use Rattle.hn_typed.specs.Item.{PlainItem, Delegated, External}
-use Rattle.hn_typed.specs.Table.{IsItem}
-use Rattle.hn_typed.specs.Laws.{ItemIsUnique, ItemHasNoFault, ItemOrFault}
-use Rattle.hn_typed.specs.Written.{tlv_of, IsWritable}
+use Rattle.hn_base.proofs.Names.{◌≡◌, ◌∙◌, ◌<◌, ◌^◌, ℕ, List, [], ◌∷◌, ◌++◌, length, map, replicate, Option, Some, None, inl, inr, refl, sym, ap, subst, arith, All, w32, w128, to_be_bytes}
+use Rattle.hn_base.proofs.Names.{from_be_bytes, filter_map, flat_map, length-take, append-nil, All-contains, Contains-append_left, Contains-append_right, filter_map-append}
+use Rattle.hn_base.proofs.Names.{from_be_bytes-to_be_bytes_4, IsByte, PlainPrefix}
+use Rattle.hn_rules.proofs.Names.{Contains, Contains-head, Contains-tail, Contains-cases, Contains-one, nothing_in, all_of, in_filter_map, from_filter_map, none_given, given_by_parts, PlainTlv, IsTlv}
+use Rattle.hn_rules.proofs.Names.{IsTlvList, spelling, ListIsUnique, word, bytes_for, prefix_field, PlainItem, External, IsItem, ItemIsUnique, ItemHasNoFault, ItemOrFault, tlv_of, IsWritable}
+use Rattle.hn_rules.proofs.Names.{IsReading, Delegation, seconds_left, PlainData, IsOwnData, peer_item, external_items, assigned_item, address_item, items_of, OwnItems, OwnPrefix}
+use Rattle.hn_tlv.specs.Grammar.{header, padding, unpadded}
+use Rattle.hn_typed.specs.Item.{Delegated}
 use Rattle.hn_data.specs.Delegations.{delegation_of, HasDelegation}
-use Rattle.hn_data.specs.Items.{IsReading}
-use Rattle.hn_data.specs.declared.said.Delegation.{Delegation}
-use Rattle.hn_own.specs.Lifetimes.{seconds_left}
-use Rattle.hn_own.specs.Own.{PlainData, IsOwnData, peer_item, delegated_item, external_items, assigned_item, address_item, items_of}
-use Rattle.hn_own.specs.declared.own.OwnItems.{OwnItems}
-use Rattle.hn_own.specs.declared.own_prefixes.OwnPrefix.{OwnPrefix}
+use Rattle.hn_own.specs.Own.{delegated_item}
 use Rattle.hn_rules.proofs.LawPublished.{ReadLaws, read_is, are_items, item_read}
 
 -- ---- a Delegated-Prefix

@@ -1,22 +1,10 @@
 -- Pairs of a delegated prefix and a post, and those for which a router has a wish.
-use Rattle.std.proofs.Common.{◌≡◌, ◌≤◌, ◌*◌, ◌∙◌, List, [], ◌∷◌, length, map, ⊎_elim, sym, subst, arith, length-append}
-use Rattle.std.specs.Prelude.{Contains, flat_map}
-use Rattle.std.specs.Cmp.{IsTotalOrder}
-use Rattle.std.proofs.lemmas.List.{length-map}
-use Rattle.std.proofs.lemmas.List.Elements.{Contains-append_left, Contains-append_right}
-use Rattle.hn_base.proofs.AscendingLists.{Contains-cases, Contains-map, Contains-from_map, nothing_in, sorted_parts}
-use Rattle.hn_base.specs.Ascending.{IsExact}
-use Rattle.hn_base.specs.declared.ids.EpId.{EpId}
-use Rattle.hn_base.specs.Prefix.{PlainPrefix}
-use Rattle.hn_deleg.specs.declared.delegated.Delegated.{Delegated}
-use Rattle.hn_assign.specs.declared.assigned.Wish.{Wish}
-use Rattle.hn_assign.specs.declared.pair.Pair.{Pair}
-use Rattle.hn_assign.specs.Pair.{pair_cmp, wish_pair, IsWished, IsAscending}
-use Rattle.hn_own.specs.Posts.{posts_of}
+use Rattle.hn_base.proofs.Names.{◌≡◌, ◌≤◌, ◌*◌, ◌∙◌, List, [], ◌∷◌, length, map, ⊎_elim, sym, subst, arith, length-append, IsTotalOrder, length-map, Contains-append_left, Contains-append_right}
+use Rattle.hn_base.proofs.Names.{IsExact, PlainPrefix}
+use Rattle.hn_rules.proofs.Names.{Contains, Contains-cases, Contains-map, Contains-from_map, nothing_in, sorted_parts, EpId, Delegated, Wish, Pair, pair_cmp, wish_pair, IsWished, IsAscending}
+use Rattle.hn_rules.proofs.Names.{posts_of, State, AreAsked, contains_at}
+use Rattle.std.specs.Prelude.{flat_map}
 use Rattle.hn_base.proofs.Pigeonhole.{no_longer}
-use Rattle.hn_rules.specs.declared.state.State.{State}
-use Rattle.hn_rules.specs.Assigning.{AreAsked}
-use Rattle.hn_base.proofs.PartsAtPlaces.{contains_at}
 
 -- ---- all pairs of a usable prefix and a post
 

@@ -1,27 +1,12 @@
 -- The Assigned-Prefixes of a router's node data are those of the assignments that it publishes.
-use Rattle.std.proofs.Common.{◌≡◌, ◌↔◌, ◌∙◌, ℕ, List, [], ◌++◌, map, refl, sym, ap, subst}
-use Rattle.std.specs.Prelude.{All, Contains}
-use Rattle.std.specs.List.{filter_map}
-use Rattle.std.proofs.lemmas.List.Elements.{All-contains, All-contains_itself, All-weaker, Contains-append_left, Contains-append_right, filter_map-append}
-use Rattle.std.proofs.lemmas.List.{append-nil}
-use Rattle.hn_base.specs.Byte.{IsByte}
-use Rattle.hn_base.proofs.AscendingLists.{Contains-tail, Contains-map, Contains-from_map}
-use Rattle.hn_tlv.specs.Grammar.{IsTlvList}
-use Rattle.hn_tlv.specs.Laws.{SpellingIsPrefixFree, ListIsOfBytes}
-use Rattle.hn_typed.specs.Item.{PlainItem}
-use Rattle.hn_typed.specs.Written.{tlv_of}
-use Rattle.hn_typed.specs.Laws.{ItemIsUnique, WrittenIsRead}
-use Rattle.hn_data.specs.Items.{AreItems}
-use Rattle.hn_data.specs.Laws.{ItemsAreUnique}
-use Rattle.hn_data.specs.Peers.{peer_of, HasPeer}
+use Rattle.hn_base.proofs.Names.{◌≡◌, ◌↔◌, ◌∙◌, ℕ, List, [], ◌++◌, map, refl, sym, ap, subst, All, filter_map, All-contains, All-contains_itself, All-weaker, Contains-append_left}
+use Rattle.hn_base.proofs.Names.{Contains-append_right, filter_map-append, append-nil, IsByte}
+use Rattle.hn_rules.proofs.Names.{Contains, Contains-tail, Contains-map, Contains-from_map, IsTlvList, SpellingIsPrefixFree, ListIsOfBytes, PlainItem, tlv_of, ItemIsUnique, WrittenIsRead, AreItems}
+use Rattle.hn_rules.proofs.Names.{ItemsAreUnique, HasPeer, AssignedPrefix, PeerLink, OwnItems, OwnPrefix, PlainData, IsOwnData, peer_item, external_items, assigned_item, address_item, items_of}
+use Rattle.hn_rules.proofs.Names.{in_filter_map, from_filter_map, all_given, none_given, given_by_parts, none_or_some}
+use Rattle.hn_data.specs.Peers.{peer_of}
 use Rattle.hn_data.specs.Said.{assigned_prefix_of, HasAssigned}
-use Rattle.hn_data.specs.declared.said.AssignedPrefix.{AssignedPrefix}
-use Rattle.hn_data.specs.declared.said.PeerLink.{PeerLink}
-use Rattle.hn_own.specs.declared.own.OwnItems.{OwnItems}
-use Rattle.hn_own.specs.declared.own_prefixes.OwnPrefix.{OwnPrefix}
-use Rattle.hn_own.specs.Own.{PlainData, IsOwnData, peer_item, external_items, assigned_item, address_item, items_of}
 use Rattle.hn_rules.specs.Laws.{AssignedIsPublished, ItemsArePublished}
-use Rattle.hn_base.proofs.Elements.{in_filter_map, from_filter_map, all_given, none_given, given_by_parts, none_or_some}
 use Rattle.hn_rules.proofs.LawSpelled.{AreRead, encoding, own_fit, are_read, same_encoded}
 
 -- ---- the Assigned-Prefixes among own items

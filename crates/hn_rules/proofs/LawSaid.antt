@@ -1,18 +1,9 @@
 -- A router's own node data have an HNCP-Version, and the Node-Addresses of them are its own addresses.
-use Rattle.std.proofs.Common.{◌≡◌, ◌↔◌, ◌∙◌, ℕ, List, [], ◌∷◌, ◌++◌, map, Some, refl, sym, ap, subst}
-use Rattle.std.specs.Prelude.{Contains, codes}
-use Rattle.std.specs.List.{filter_map}
-use Rattle.std.proofs.lemmas.List.Elements.{All-contains, Contains-append_right, filter_map-append}
-use Rattle.hn_base.proofs.AscendingLists.{Contains-head, Contains-tail, Contains-map, Contains-one, nothing_in}
-use Rattle.hn_base.proofs.Elements.{in_filter_map, from_filter_map, all_given, none_given, given_by_parts, none_or_some}
-use Rattle.hn_base.specs.Caps.{PlainCaps, plain_caps}
-use Rattle.hn_typed.specs.Item.{PlainItem, Version}
+use Rattle.hn_base.proofs.Names.{◌≡◌, ◌↔◌, ◌∙◌, ℕ, List, [], ◌∷◌, ◌++◌, map, Some, refl, sym, ap, subst, filter_map, All-contains, Contains-append_right, filter_map-append, PlainCaps, plain_caps}
+use Rattle.hn_rules.proofs.Names.{Contains, codes, Contains-head, Contains-tail, Contains-map, Contains-one, nothing_in, in_filter_map, from_filter_map, all_given, none_given, given_by_parts}
+use Rattle.hn_rules.proofs.Names.{none_or_some, PlainItem, Version, OwnAddress, PlainData, IsOwnData, peer_item, external_items, assigned_item, address_item, items_of, OwnItems, OwnPrefix}
 use Rattle.hn_data.specs.Items.{first_of}
 use Rattle.hn_data.specs.Said.{HasVersion, HasAddress, caps_of, node_address_of}
-use Rattle.hn_own.specs.Addresses.{OwnAddress}
-use Rattle.hn_own.specs.Own.{PlainData, IsOwnData, peer_item, external_items, assigned_item, address_item, items_of}
-use Rattle.hn_own.specs.declared.own.OwnItems.{OwnItems}
-use Rattle.hn_own.specs.declared.own_prefixes.OwnPrefix.{OwnPrefix}
 use Rattle.hn_rules.specs.Laws.{OwnVersionIsSaid, OwnAddressesAreSaid}
 use Rattle.hn_rules.proofs.LawPublished.{ReadLaws, read_is, are_items, item_read}
 

@@ -1,28 +1,9 @@
 -- Own items that can be written have TLVs, and the ascending set of the encodings of items is read as those items again.
-use Rattle.std.proofs.Common.{◌≡◌, ◌∙◌, ◌<◌, ◌^◌, ◌+◌, ◌*◌, ℕ, List, [], ◌∷◌, ◌++◌, map, take, get_or, refl, sym, ap, subst, inl, arith}
-use Rattle.std.specs.Prelude.{All, Contains, codes}
-use Rattle.std.specs.Int.{w128, to_be_bytes}
-use Rattle.std.specs.List.{concat}
-use Rattle.std.proofs.lemmas.List.{append-nil}
-use Rattle.std.proofs.lemmas.List.Elements.{All-append, All-cons, All-nil, All-take, All-head, All-tail, All-map, All-contains, All-from_recursion}
-use Rattle.hn_base.proofs.AscendingLists.{Contains-from_map}
-use Rattle.hn_base.proofs.BigEndian.{number_bytes}
-use Rattle.hn_base.specs.Caps.{PlainCaps, plain_caps}
-use Rattle.hn_tlv.specs.Grammar.{PlainTlv, IsTlv, IsTlvList, spelling}
-use Rattle.hn_tlv.specs.Laws.{SpellingIsPrefixFree, ListIsOfBytes}
-use Rattle.hn_typed.specs.Fields.{word, bytes_for, prefix_field}
-use Rattle.hn_typed.specs.Item.{PlainItem, Version, External}
-use Rattle.hn_typed.specs.Table.{IsItem}
-use Rattle.hn_typed.specs.Written.{tlv_of, IsWritable}
-use Rattle.hn_typed.specs.Laws.{ItemIsUnique, WrittenIsRead}
-use Rattle.hn_data.specs.Items.{IsReading}
-use Rattle.hn_data.specs.declared.said.AssignedPrefix.{AssignedPrefix}
-use Rattle.hn_data.specs.declared.said.PeerLink.{PeerLink}
-use Rattle.hn_own.specs.declared.own.OwnItems.{OwnItems}
-use Rattle.hn_own.specs.declared.own_prefixes.OwnPrefix.{OwnPrefix}
-use Rattle.hn_own.specs.Addresses.{OwnAddress}
-use Rattle.hn_own.specs.Own.{peer_item, external_items, assigned_item, address_item, items_of}
-use Rattle.hn_base.specs.Byte.{IsByte}
+use Rattle.hn_base.proofs.Names.{◌≡◌, ◌∙◌, ◌<◌, ◌^◌, ◌+◌, ◌*◌, ℕ, List, [], ◌∷◌, ◌++◌, map, take, get_or, refl, sym, ap, subst, inl, arith, All, w128, to_be_bytes, concat, append-nil, All-append}
+use Rattle.hn_base.proofs.Names.{All-cons, All-nil, All-take, All-head, All-tail, All-map, All-contains, All-from_recursion, PlainCaps, plain_caps, IsByte}
+use Rattle.hn_rules.proofs.Names.{Contains, codes, Contains-from_map, number_bytes, PlainTlv, IsTlv, IsTlvList, spelling, SpellingIsPrefixFree, ListIsOfBytes, word, bytes_for, prefix_field, PlainItem}
+use Rattle.hn_rules.proofs.Names.{Version, External, IsItem, tlv_of, IsWritable, ItemIsUnique, WrittenIsRead, IsReading, AssignedPrefix, PeerLink, OwnItems, OwnPrefix, OwnAddress, peer_item}
+use Rattle.hn_rules.proofs.Names.{external_items, assigned_item, address_item, items_of}
 
 -- ---- own items
 

@@ -1,20 +1,9 @@
 -- The nodes that a router sees are a network with its own node.
-use Rattle.std.proofs.Common.{◌≡◌, ℕ, List, [], ◌∷◌, map, Option, Some, None, refl, sym, subst}
-use Rattle.std.specs.Prelude.{Contains}
-use Rattle.std.specs.declared.cmp.Ordering.TheVariants.{Less}
-use Rattle.std.specs.Ordering.{nat_cmp}
-use Rattle.std.specs.List.{AllByRecursion, filter_map, cons_option}
+use Rattle.hn_base.proofs.Names.{◌≡◌, ℕ, List, [], ◌∷◌, map, Option, Some, None, refl, sym, subst, Less, nat_cmp, AllByRecursion, filter_map, cons_option}
+use Rattle.hn_rules.proofs.Names.{Contains, NodeId, Contains-map, sorted_parts, ids_of, Entry, State, ViewIsNetwork, own_entry, entry_of, view_of, in_filter_map}
 use Rattle.std.specs.List.Sorted.{IsStrictlySortedBy}
-use Rattle.hn_base.specs.declared.ids.NodeId.{NodeId}
-use Rattle.hn_base.proofs.AscendingLists.{Contains-map, sorted_parts}
-use Rattle.hn_data.specs.View.{ids_of}
-use Rattle.hn_data.specs.declared.view.Entry.{Entry}
 use Rattle.hn_graph.specs.Laws.{OwnIsReachable}
-use Rattle.hn_rules.specs.declared.state.State.{State}
-use Rattle.hn_rules.specs.Laws.{ViewIsNetwork}
-use Rattle.hn_rules.specs.Nodes.{own_entry, entry_of, view_of}
 use Rattle.hn_rules.specs.Router.{WasReach}
-use Rattle.hn_base.proofs.Elements.{in_filter_map}
 use Rattle.hn_rules.proofs.NodeLists.{nodes_are_network}
 use Rattle.hn_rules.proofs.Entries.{entry_own, entry_named}
 

@@ -1,12 +1,8 @@
 -- The laws of the crates below that the laws of the router stand on.
-use Rattle.std.proofs.Common.{◌≡◌, ℕ, List, Some, subst}
-use Rattle.std.specs.Prelude.{All}
-use Rattle.std.proofs.lemmas.List.Elements.{All-contains}
+use Rattle.hn_base.proofs.Names.{◌≡◌, ℕ, List, Some, subst, All, All-contains}
+use Rattle.hn_rules.proofs.Names.{held, HeldIsOfAnEntry, NoNodesAreTable, Stored, HeldNode}
 use Rattle.hn_dncp.specs.Laws.{MeetingKeepsPeers, ContactKeepsPeers}
-use Rattle.hn_store.specs.Nodes.{held}
-use Rattle.hn_store.specs.Laws.{OwnStays, HeldIsOfAnEntry, NoNodesAreTable, AcceptanceKeepsTable, MarksKeepTable, ForgettingKeepsTable}
-use Rattle.hn_store.specs.declared.stored.Stored.{Stored}
-use Rattle.hn_store.specs.declared.stored.HeldNode.{HeldNode}
+use Rattle.hn_store.specs.Laws.{OwnStays, AcceptanceKeepsTable, MarksKeepTable, ForgettingKeepsTable}
 
 pub record KnownLaws : Type 0 where
   pub peers_met : MeetingKeepsPeers

@@ -1,15 +1,6 @@
 -- Facts that rules keep, how they compose, and changes one after another.
-use Rattle.std.proofs.Common.{◌≡◌, ◌∙◌, List, [], ◌∷◌, ◌++◌, Option, Some, None, refl, sym, subst, arith}
-use Rattle.std.specs.Prelude.{Contains}
-use Rattle.std.proofs.lemmas.List.Elements.{Contains-append_right}
-use Rattle.hn_base.specs.declared.ids.EpId.{EpId}
-use Rattle.hn_base.specs.Rules.{Then, Each, OnSome, KeepsBy}
-use Rattle.hn_tlv.specs.Grammar.{PlainTlv}
-use Rattle.hn_dncp.specs.declared.port.Port.{Port}
-use Rattle.hn_own.specs.Ports.{port_at}
-use Rattle.hn_rules.specs.declared.running.Running.{Running}
-use Rattle.hn_rules.specs.Rules.{Rule, AtPort}
-use Rattle.hn_rules.specs.Changes.{Change, change, IsAllowed, Leads, IsOfChanges, EachKeeps}
+use Rattle.hn_base.proofs.Names.{◌≡◌, ◌∙◌, List, [], ◌∷◌, ◌++◌, Option, Some, None, refl, sym, subst, arith, Contains-append_right, Then, Each, OnSome, KeepsBy}
+use Rattle.hn_rules.proofs.Names.{Contains, EpId, PlainTlv, Port, port_at, Running, Rule, AtPort, Change, change, IsAllowed, Leads, IsOfChanges, EachKeeps}
 use Rattle.hn_rules.specs.Laws.{MakesChanges}
 
 module _ (P : Running → Type 0) where

@@ -1,22 +1,12 @@
 -- The parts of the reachable nodes are those of their leaves.
-use Rattle.std.proofs.Common.{◌≡◌, ◌∙◌, ◌<◌, ◌^◌, ◌++◌, ℕ, Bool, true, false, cond, List, [], ◌∷◌, map, Option, Some, None, refl, ap}
-use Rattle.std.specs.Prelude.{IfSome, ◌==◌}
-use Rattle.std.specs.Option.{option_map}
-use Rattle.std.specs.List.{filter_map, flat_map, cons_option}
-use Rattle.std.proofs.lemmas.List.Elements.{All-nil, All-cons}
-use Rattle.hn_base.specs.declared.ids.NodeId.{NodeId}
-use Rattle.hn_hash.specs.declared.part.Part.{Part}
-use Rattle.hn_hash.specs.Hash.{hash_of}
+use Rattle.hn_base.proofs.Names.{◌≡◌, ◌∙◌, ◌<◌, ◌^◌, ◌++◌, ℕ, Bool, true, false, cond, List, [], ◌∷◌, map, Option, Some, None, refl, ap, ◌==◌, option_map, filter_map, flat_map, cons_option, All-nil}
+use Rattle.hn_base.proofs.Names.{All-cons}
+use Rattle.hn_rules.proofs.Names.{IfSome, NodeId, Part, hash_of, Entry, held, stored_part, IsIntact, Stored, State, own_entry, held_entry, entry_of, view_of, leaf_of, part_of, parts_of, IsWell}
+use Rattle.hn_rules.proofs.Names.{HeldIsOfAnEntry}
 use Rattle.hn_hash.specs.Network as network
 use Rattle.hn_hash.specs.Network.{AreNumbered}
-use Rattle.hn_data.specs.declared.view.Entry.{Entry}
-use Rattle.hn_store.specs.Nodes.{held, stored_part, IsIntact}
-use Rattle.hn_store.specs.declared.stored.Stored.{Stored}
-use Rattle.hn_rules.specs.declared.state.State.{State}
-use Rattle.hn_rules.specs.Nodes.{own_entry, held_entry, entry_of, view_of, leaf_of, leaves_of, part_of, parts_of}
-use Rattle.hn_rules.specs.Router.{IsWell}
+use Rattle.hn_rules.specs.Nodes.{leaves_of}
 use Rattle.hn_rules.specs.Laws.{HashIsOfLeaves}
-use Rattle.hn_store.specs.Laws.{HeldIsOfAnEntry}
 use Rattle.hn_rules.proofs.LawsFromBelow.{held_all}
 
 -- ---- a node's part is that of its leaf, and its number has 32 bits

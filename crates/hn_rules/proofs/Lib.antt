@@ -1,3 +1,4 @@
+mod Names
 mod Announcing
 mod AnswerTlvs
 mod Arriving

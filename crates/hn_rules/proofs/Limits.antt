@@ -1,7 +1,6 @@
 -- No change changes how many nodes the table may hold.
-use Rattle.std.proofs.Common.{◌∙◌, ap}
-use Rattle.hn_store.specs.Nodes.{Nodes}
-use Rattle.hn_rules.specs.Changes.{Accept, Mark, Forget, Empty, ChangeTable}
+use Rattle.hn_base.proofs.Names.{◌∙◌, ap}
+use Rattle.hn_rules.proofs.Names.{Nodes, Accept, Mark, Forget, Empty, ChangeTable}
 use Rattle.hn_rules.specs.Laws.{ChangesKeepLimit}
 
 pub limit_stays : ChangesKeepLimit

@@ -1,21 +1,10 @@
 -- What a tick leaves of each endpoint.
-use Rattle.std.proofs.Common.{◌≡◌, ◌∙◌, ◌⊎◌, ◌<◌, ◌++◌, ℕ, Bool, true, false, cond, lit<, List, [], ◌∷◌, length, map, None, Some, inl, inr, refl, sym, ap, subst, arith}
-use Rattle.std.specs.Prelude.{Contains, ◌≢◌, ◌||◌}
-use Rattle.std.proofs.lemmas.Bool.{eqb-false}
-use Rattle.std.proofs.lemmas.List.Elements.{Contains-append_left, Contains-append_right}
-use Rattle.hn_base.proofs.AscendingLists.{Contains-head, Contains-tail, Contains-cases, nothing_in}
-use Rattle.hn_base.proofs.Elements.{found_passes}
-use Rattle.hn_base.specs.declared.ids.EpId.{EpId}
-use Rattle.hn_timers.specs.Interval.{interval_from, has_to_send}
-use Rattle.hn_dncp.specs.Laws.{PackingIsNotEmpty}
-use Rattle.hn_dncp.specs.Tick.{ticked, tick_sends, has_keep_alive}
-use Rattle.hn_dncp.specs.declared.port.Port.{Port}
-use Rattle.hn_own.specs.Ports.{is_port, port_at, put_port, endpoints_of}
-use Rattle.hn_rules.specs.declared.done.Outgoing.{Outgoing}
-use Rattle.hn_rules.specs.declared.running.Running.{Running}
-use Rattle.hn_rules.specs.Refresh.{IsPublishing, IsPortReset, IsHashing, IsRefresh, network_state_hash}
-use Rattle.hn_rules.specs.Rules.{AtPort, begun_at, with_port}
-use Rattle.hn_rules.specs.Tick.{IsPortSending, IsPortTick, IsPortsTick}
+use Rattle.hn_base.proofs.Names.{◌≡◌, ◌∙◌, ◌⊎◌, ◌<◌, ◌++◌, ℕ, Bool, true, false, cond, lit<, List, [], ◌∷◌, length, map, None, Some, inl, inr, refl, sym, ap, subst, arith, ◌||◌, eqb-false}
+use Rattle.hn_base.proofs.Names.{Contains-append_left, Contains-append_right}
+use Rattle.hn_rules.proofs.Names.{Contains, ◌≢◌, Contains-head, Contains-tail, Contains-cases, nothing_in, found_passes, EpId, interval_from, has_to_send, PackingIsNotEmpty, ticked, tick_sends, Port}
+use Rattle.hn_rules.proofs.Names.{is_port, port_at, put_port, endpoints_of, Outgoing, Running, IsPublishing, IsPortReset, IsHashing, IsRefresh, network_state_hash, AtPort, begun_at, with_port}
+use Rattle.hn_rules.proofs.Names.{IsPortSending, IsPortTick, IsPortsTick}
+use Rattle.hn_dncp.specs.Tick.{has_keep_alive}
 use Rattle.hn_rules.specs.Updates.{HasMoved, RestfulTickMovesPorts}
 use Rattle.hn_rules.proofs.NothingKeptIsDue.{CalmLaws, nothing_lost}
 use Rattle.hn_rules.proofs.Leads.{Keeps, keeps_each, keeps_option}

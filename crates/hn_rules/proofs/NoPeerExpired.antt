@@ -1,23 +1,9 @@
 -- Where a router says the same of its peers after expiry, none of them had expired.
-use Rattle.std.proofs.Common.{◌≡◌, ◌≢◌, ◌∙◌, ◌≤◌, Bool, true, false, cond, List, [], ◌∷◌, ◌++◌, map, filter, length, Some, inl, inr, refl, sym, ap, subst, arith}
-use Rattle.std.specs.Prelude.{All, Contains, find, ◌==◌}
+use Rattle.hn_base.proofs.Names.{◌≡◌, ◌≢◌, ◌∙◌, ◌≤◌, Bool, true, false, cond, List, [], ◌∷◌, ◌++◌, map, filter, length, Some, inl, inr, refl, sym, ap, subst, arith, All, find, ◌==◌, nat_cmp, eqb-true}
+use Rattle.hn_base.proofs.Names.{ne_eqb, append-nil, length-map, All-nil, All-cons, filter-append}
+use Rattle.hn_rules.proofs.Names.{Contains, Contains-head, Contains-tail, Contains-map, all_of, EpId, PeerLink, Neighbour, Port, link_at, links_at, links_of, number, ArePorts, is_port, port_at}
+use Rattle.hn_rules.proofs.Names.{endpoints_of, Running, State, AreHeard, IsExpired, Without, IsPortExpiry, IsExpiry}
 use Rattle.std.specs.List.Sorted.{IsStrictlySortedBy}
-use Rattle.std.specs.Ordering.{nat_cmp}
-use Rattle.std.proofs.lemmas.Bool.{eqb-true, ne_eqb}
-use Rattle.std.proofs.lemmas.List.{append-nil, length-map}
-use Rattle.std.proofs.lemmas.List.Elements.{All-nil, All-cons, filter-append}
-use Rattle.hn_base.proofs.AscendingLists.{Contains-head, Contains-tail, Contains-map}
-use Rattle.hn_base.proofs.Elements.{all_of}
-use Rattle.hn_base.specs.declared.ids.EpId.{EpId}
-use Rattle.hn_data.specs.declared.said.PeerLink.{PeerLink}
-use Rattle.hn_dncp.specs.declared.peers.Neighbour.{Neighbour}
-use Rattle.hn_dncp.specs.declared.port.Port.{Port}
-use Rattle.hn_own.specs.Own.{link_at, links_at, links_of}
-use Rattle.hn_own.specs.Ports.{number, ArePorts, is_port, port_at, endpoints_of}
-use Rattle.hn_rules.specs.declared.running.Running.{Running}
-use Rattle.hn_rules.specs.declared.state.State.{State}
-use Rattle.hn_rules.specs.Still.{AreHeard}
-use Rattle.hn_rules.specs.Tick.{IsExpired, Without, IsPortExpiry, IsExpiry}
 use Rattle.hn_rules.proofs.PortsInTurn.{Puts, apart, are_ports, found_itself, none_above, ports_alone, ran_at, with_ports}
 
 -- ---- a list without some of its elements

@@ -1,24 +1,9 @@
 -- The nodes that a router knows, in order.
-use Rattle.std.proofs.Common.{◌≡◌, ◌∙◌, ◌≤◌, ℕ, Bool, true, false, cond, List, [], ◌∷◌, ◌++◌, length, map, filter, take, Option, Some, None, Result, Ok, Err, nat_lt, refl, sym, ap, subst, arith}
-use Rattle.std.specs.Prelude.{Contains, IfOk, ◌↔◌}
-use Rattle.std.specs.List.{filter_map, cons_option}
-use Rattle.std.specs.Option.{option_map}
-use Rattle.std.specs.Ordering.{nat_cmp}
-use Rattle.std.specs.List.Sorted.{IsStrictlySortedBy}
-use Rattle.std.proofs.lemmas.List.{map-append, take_all}
-use Rattle.std.proofs.lemmas.List.Elements.{Contains-append_right}
-use Rattle.hn_base.specs.NodeIds.{node_cmp}
-use Rattle.hn_base.specs.declared.ids.NodeId.{NodeId}
-use Rattle.hn_base.specs.declared.memory.NoMemory.{NoMemory}
-use Rattle.hn_graph.specs.Path.{IsReachable}
-use Rattle.hn_data.specs.View.{ids_of, IsNetwork}
-use Rattle.hn_data.specs.declared.view.Entry.{Entry}
+use Rattle.hn_base.proofs.Names.{◌≡◌, ◌∙◌, ◌≤◌, ℕ, Bool, true, false, cond, List, [], ◌∷◌, ◌++◌, length, map, filter, take, Option, Some, None, Result, Ok, Err, nat_lt, refl, sym, ap, subst, arith}
+use Rattle.hn_base.proofs.Names.{IfOk, filter_map, cons_option, option_map, nat_cmp, IsStrictlySortedBy, map-append, take_all, Contains-append_right, node_cmp}
+use Rattle.hn_rules.proofs.Names.{Contains, ◌↔◌, NodeId, NoMemory, IsReachable, ids_of, IsNetwork, Entry, Stored, HeldNode, ascending-around, State, held_entry, own_entry, held_entries, nodes_of}
+use Rattle.hn_rules.proofs.Names.{IsReach}
 use Rattle.hn_store.specs.Nodes as table
-use Rattle.hn_store.specs.declared.stored.Stored.{Stored}
-use Rattle.hn_store.specs.declared.stored.HeldNode.{HeldNode}
-use Rattle.hn_base.proofs.AscendingNumbers.{ascending-around}
-use Rattle.hn_rules.specs.declared.state.State.{State}
-use Rattle.hn_rules.specs.Nodes.{held_entry, own_entry, held_entries, nodes_of, IsReach}
 
 -- ---- the nodes are in ascending order
 

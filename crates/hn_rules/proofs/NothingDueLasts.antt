@@ -1,48 +1,19 @@
 -- A router for which nothing is due stays so until something is.
-use Rattle.std.proofs.Common.{◌≡◌, ◌∙◌, ◌↔◌, ℕ, ◌+◌, ◌-◌, ◌*◌, ◌^◌, ◌<◌, ◌≤◌, Bool, true, false, List, [], map, Some, None, Contains, nat_lt, nat_le, inl, inr, refl, sym, ap, arith}
-use Rattle.std.specs.Prelude.{All, ◌==◌}
-use Rattle.std.specs.List.{list_any}
-use Rattle.std.specs.Option.{option_map}
-use Rattle.std.specs.Ordering.{nat_cmp}
-use Rattle.std.proofs.lemmas.Bool.{and_parts, cases_lt, eq-eqb, eqb-true, ltb-true}
-use Rattle.std.proofs.lemmas.Cmp.{nat_cmp_total}
-use Rattle.std.proofs.lemmas.List.Elements.{All-contains}
-use Rattle.hn_base.proofs.AscendingLists.{sorted_parts}
-use Rattle.hn_base.proofs.Elements.{all_of, found_passes, in_filter_map, passing_found}
-use Rattle.hn_base.proofs.PartsAtPlaces.{one_of_ascending, part_at, part_stands}
-use Rattle.hn_data.specs.View.{PlainView}
-use Rattle.hn_dncp.specs.Due.{IsPortStill}
+use Rattle.hn_base.proofs.Names.{◌≡◌, ◌∙◌, ◌↔◌, ℕ, ◌+◌, ◌-◌, ◌*◌, ◌^◌, ◌<◌, ◌≤◌, Bool, true, false, List, [], map, Some, None, Contains, nat_lt, inl, inr, refl, sym, ap, arith, All, ◌==◌, list_any}
+use Rattle.hn_base.proofs.Names.{option_map, nat_cmp, and_parts, cases_lt, eq-eqb, eqb-true, ltb-true, nat_cmp_total, All-contains}
+use Rattle.hn_rules.proofs.Names.{nat_le, sorted_parts, all_of, found_passes, in_filter_map, passing_found, one_of_ascending, part_at, part_stands, PlainView, IsPortStill, Neighbour, Port}
+use Rattle.hn_rules.proofs.Names.{IsForgetting, HeldIsOfAnEntry, is_forgotten, held, HeldNode, IsLike, ReachabilityStays, IsLater, IsLifetimeEnd, Delegated, Wish, IsOwnEnd, has_ended_one, State}
+use Rattle.hn_rules.proofs.Names.{IsWishAt, AreAsked, IsRunAssigned, IsDueAt, StillStays, held_entry, entry_of, view_of, IsReach, IsWell, seen_by, at_moment, AreHeard, IsExpired}
 use Rattle.hn_dncp.specs.Laws.{StillPortStays}
-use Rattle.hn_dncp.specs.declared.peers.Neighbour.{Neighbour}
-use Rattle.hn_dncp.specs.declared.port.Port.{Port}
 use Rattle.hn_timers.specs.KeepAlive.{expires_at}
 use Rattle.hn_timers.specs.Laws.{ExpiryIsAMoment}
-use Rattle.hn_store.specs.Due.{IsForgetting}
-use Rattle.hn_store.specs.Laws.{HeldIsOfAnEntry, ForgettingIsAMoment}
-use Rattle.hn_store.specs.Loss.{is_forgotten}
-use Rattle.hn_store.specs.Nodes.{held}
-use Rattle.hn_store.specs.declared.stored.HeldNode.{HeldNode}
-use Rattle.hn_graph.specs.Laws.{IsLike, ReachabilityStays}
-use Rattle.hn_data.specs.Later.{IsLater}
-use Rattle.hn_deleg.specs.Due.{IsLifetimeEnd}
+use Rattle.hn_store.specs.Laws.{ForgettingIsAMoment}
 use Rattle.hn_deleg.specs.Later.{aged_delegated}
 use Rattle.hn_deleg.specs.Laws.{UsableOfLater, UnwantedOfLater}
-use Rattle.hn_deleg.specs.declared.delegated.Delegated.{Delegated}
 use Rattle.hn_link.specs.Laws.{CommonLinkOfLater}
 use Rattle.hn_assign.specs.Laws.{StillRunStays}
-use Rattle.hn_assign.specs.declared.assigned.Wish.{Wish}
-use Rattle.hn_own.specs.Due.{IsOwnEnd}
 use Rattle.hn_own.specs.Laws.{EndingIsAMoment}
-use Rattle.hn_own.specs.OwnPrefixes.{has_ended_one}
-use Rattle.hn_rules.specs.declared.state.State.{State}
-use Rattle.hn_rules.specs.Assigning.{IsWishAt, AreAsked, IsRunAssigned}
-use Rattle.hn_rules.specs.Due.{IsDueAt}
-use Rattle.hn_rules.specs.Laws.{UneventfulReaches, StillStays}
-use Rattle.hn_rules.specs.Nodes.{held_entry, entry_of, view_of, IsReach}
-use Rattle.hn_rules.specs.Router.{IsWell}
-use Rattle.hn_rules.specs.Seen.{seen_by}
-use Rattle.hn_rules.specs.Still.{at_moment, AreHeard}
-use Rattle.hn_rules.specs.Tick.{IsExpired}
+use Rattle.hn_rules.specs.Laws.{UneventfulReaches}
 use Rattle.hn_rules.proofs.Entries.{entry_held}
 use Rattle.hn_rules.proofs.SeenWhileTimePasses.{view_later}
 use Rattle.hn_rules.proofs.RefreshChangesNothing.{reach_later, same_reach}

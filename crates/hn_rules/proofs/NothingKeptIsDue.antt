@@ -1,42 +1,14 @@
 -- A tick of a router that keeps nothing which has come to its moment.
-use Rattle.std.proofs.Common.{◌≡◌, ◌∙◌, ℕ, ◌≤◌, cond, not, List, [], ◌∷◌, map, Option, Some, refl, sym, ap, subst}
-use Rattle.std.specs.Prelude.{Contains, ◌==◌}
-use Rattle.std.specs.List.{filter_map, cons_option}
-use Rattle.std.specs.Option.{option_map}
-use Rattle.std.proofs.lemmas.List.Elements.{All-contains_itself, All-filter, All-weaker}
-use Rattle.hn_base.specs.declared.ids.NodeId.{NodeId}
+use Rattle.hn_base.proofs.Names.{◌≡◌, ◌∙◌, ℕ, ◌≤◌, cond, not, List, [], ◌∷◌, map, Option, Some, refl, sym, ap, subst, ◌==◌, filter_map, cons_option, option_map, All-contains_itself, All-filter}
+use Rattle.hn_base.proofs.Names.{All-weaker}
+use Rattle.hn_rules.proofs.Names.{Contains, NodeId, Assigned, Held, PlainView, AssignedPrefix, Entry, ReachabilityStays, NoneEnds, ArePorts, endpoints_of, OwnItems, OwnPrefix, is_forgotten}
+use Rattle.hn_rules.proofs.Names.{remembered, held, HeldNode, Stored, Running, State, IsRunAssigned, ending, held_entry, own_entry, entry_of, own_items, IsRefresh, IsRefreshed, IsFresh, IsRouter}
+use Rattle.hn_rules.proofs.Names.{AtPort, IsSole, begun_at, with_words, seen_by, at_moment, IsUneventful, IsExpiry, forgetting, IsPortTick, IsLosing, IsSettling, IsTick, from_filter}
 use Rattle.hn_assign.specs.Fixed.{AreAssignmentsUnchanged, unmarked}
-use Rattle.hn_assign.specs.declared.assigned.Assigned.{Assigned}
-use Rattle.hn_assign.specs.declared.held.Held.{Held}
 use Rattle.hn_assign.specs.declared.held.Ran.{Ran}
-use Rattle.hn_data.specs.View.{PlainView}
-use Rattle.hn_data.specs.declared.said.AssignedPrefix.{AssignedPrefix}
-use Rattle.hn_data.specs.declared.view.Entry.{Entry}
-use Rattle.hn_graph.specs.Laws.{ReachabilityStays}
 use Rattle.hn_own.specs.HeldPairs.{published_in, publication_of}
-use Rattle.hn_own.specs.Laws.{NoneEnds}
-use Rattle.hn_own.specs.Ports.{ArePorts, endpoints_of}
-use Rattle.hn_own.specs.declared.own.OwnItems.{OwnItems}
-use Rattle.hn_own.specs.declared.own_prefixes.OwnPrefix.{OwnPrefix}
-use Rattle.hn_store.specs.Loss.{is_forgotten, remembered}
-use Rattle.hn_store.specs.Nodes.{held}
-use Rattle.hn_store.specs.declared.stored.HeldNode.{HeldNode}
-use Rattle.hn_store.specs.declared.stored.Stored.{Stored}
-use Rattle.hn_rules.specs.declared.running.Running.{Running}
-use Rattle.hn_rules.specs.declared.state.State.{State}
-use Rattle.hn_rules.specs.Assigning.{IsRunAssigned}
-use Rattle.hn_rules.specs.Delegating.{ending}
-use Rattle.hn_rules.specs.Nodes.{held_entry, own_entry, entry_of}
-use Rattle.hn_rules.specs.Refresh.{own_items, IsRefresh}
 use Rattle.hn_rules.specs.Rested.{IsRested, RestfulTick}
-use Rattle.hn_rules.specs.Router.{IsRefreshed, IsFresh, IsRouter}
-use Rattle.hn_rules.specs.Rules.{AtPort, IsSole, begun_at, with_words}
-use Rattle.hn_rules.specs.Seen.{seen_by}
-use Rattle.hn_rules.specs.Still.{at_moment, IsUneventful}
-use Rattle.hn_rules.specs.Tick.{IsExpiry, forgetting, IsPortTick}
-use Rattle.hn_rules.specs.Ticks.{IsLosing, IsSettling, IsTick}
 use Rattle.hn_rules.specs.Updates.{LeavesAges, RestfulTickLeavesAges}
-use Rattle.hn_base.proofs.Elements.{from_filter}
 use Rattle.hn_rules.proofs.AssignRuns.{run_seen}
 use Rattle.hn_rules.proofs.Endpoints.{ports_stand}
 use Rattle.hn_rules.proofs.Forgetting.{stays, filter_map-same, same_held, refreshed_forgetting}

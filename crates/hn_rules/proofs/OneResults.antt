@@ -1,71 +1,29 @@
 -- Each rule of a router has at most one result over one stream of words.
-use Rattle.std.proofs.Common.{◌≡◌, ◌∙◌, ◌<◌, ◌+◌, ◌%◌, ◌^◌, ℕ, Bool, true, false, List, [], ◌∷◌, ◌++◌, Some, None, length, map, slice_index, if◌then◌else◌, ap, refl, sym, subst, inl, inr, arith}
-use Rattle.std.specs.Prelude.{◌≢◌, ◌↔◌, Contains, IsTrue}
-use Rattle.std.specs.Str.{bytes_eq}
-use Rattle.std.specs.Cmp.{IsTotalOrder}
-use Rattle.std.specs.Ordering.{on}
-use Rattle.std.proofs.lemmas.Bool.{cases_lt}
-use Rattle.std.proofs.lemmas.Cmp.{on_total}
-use Rattle.std.specs.List.Sorted.{IsStrictlySortedBy}
-use Rattle.hn_base.specs.NodeIds.{node_cmp}
-use Rattle.hn_base.specs.declared.ids.NodeId.{NodeId}
-use Rattle.hn_base.specs.declared.ids.EpId.{EpId}
+use Rattle.hn_base.proofs.Names.{◌≡◌, ◌∙◌, ◌<◌, ◌+◌, ◌%◌, ◌^◌, ℕ, Bool, true, false, List, [], ◌∷◌, ◌++◌, Some, None, length, map, slice_index, ap, refl, sym, subst, inl, inr, arith, bytes_eq}
+use Rattle.hn_base.proofs.Names.{IsTotalOrder, on, cases_lt, on_total, IsStrictlySortedBy, node_cmp, Begins, Then, Each}
+use Rattle.hn_rules.proofs.Names.{◌≢◌, ◌↔◌, Contains, IsTrue, NodeId, EpId, PlainTlv, spelling, ListIsUnique, PlainItem, tlv_of, IsItem, ItemIsUnique, ItemHasNoFault, interval_from, Delegated, Wish}
+use Rattle.hn_rules.proofs.Names.{pair_cmp, wish_pair, IsSubroutine, Neighbour, Port, attached_port, asks_for_state, ticked, tick_sends, Nodes, loss_marked, PlainState, Took, State, Running, Origin}
+use Rattle.hn_rules.proofs.Names.{PlainData, endpoints_of, port_at, attached, IsReach, own_leaf, Rule, AtPort, with_words, with_port, noted, IsSole, words_of, Publishes, IsPublished, next_number}
+use Rattle.hn_rules.proofs.Names.{IsPublishing, IsReaching, IsHashing, IsPortReset, IsReset, IsRefresh, network_state_hash, with_answer, AreAsked, IsRunAssigned, IsAssigning, seen_by, node_endpoint}
+use Rattle.hn_rules.proofs.Names.{network_state, state_item, is_reached, with_state, IsNetworkRequest, request_node, IsFirstFreeId, IsFirstClaim, IsSecondClaim, IsClaim, is_taken, took_noted, IsTaken}
+use Rattle.hn_rules.proofs.Names.{IsNodeState, IsItemRule, IsTlvRule, IsTlvs, IsAnswering, IsArrival, IsExpired, Without, IsPortExpiry, IsExpiry, IsStateSending, IsPortMoving, IsPortSending}
+use Rattle.hn_rules.proofs.Names.{IsPortTick, IsPortsTick, forgetting, IsLosing, IsSettling, IsTick, ending, IsAttaching, IsPortRestart, emptied, IsRestarting}
+use Rattle.std.proofs.Common.{if◌then◌else◌}
 use Rattle.hn_base.proofs.AscendingLists.{ascending_unique}
-use Rattle.hn_base.specs.Words.{Begins}
-use Rattle.hn_tlv.specs.Grammar.{PlainTlv, spelling}
-use Rattle.hn_tlv.specs.Laws.{ListIsUnique, ListHasNoFirstFault, FirstFaultIsUnique}
-use Rattle.hn_typed.specs.Item.{PlainItem}
+use Rattle.hn_tlv.specs.Laws.{ListHasNoFirstFault, FirstFaultIsUnique}
 use Rattle.hn_typed.specs.Item as item
-use Rattle.hn_typed.specs.Written.{tlv_of}
-use Rattle.hn_typed.specs.Table.{IsItem}
 use Rattle.hn_typed.specs.Fault.{IsItemFault}
-use Rattle.hn_typed.specs.Laws.{ItemIsUnique, ItemHasNoFault, ItemFaultIsUnique}
-use Rattle.hn_timers.specs.Interval.{interval_from}
-use Rattle.hn_deleg.specs.declared.delegated.Delegated.{Delegated}
+use Rattle.hn_typed.specs.Laws.{ItemFaultIsUnique}
 use Rattle.hn_deleg.specs.Laws.{UsableIsUnique}
-use Rattle.hn_assign.specs.declared.assigned.Wish.{Wish}
 use Rattle.hn_assign.specs.declared.held.Ran.{Ran as Assigned}
-use Rattle.hn_assign.specs.Pair.{pair_cmp, wish_pair}
-use Rattle.hn_assign.specs.Subroutine.{IsSubroutine}
 use Rattle.hn_assign.specs.Laws.{SubroutineHasOneResult}
-use Rattle.hn_dncp.specs.declared.peers.Neighbour.{Neighbour}
-use Rattle.hn_dncp.specs.declared.port.Port.{Port}
-use Rattle.hn_dncp.specs.Port.{attached_port}
-use Rattle.hn_dncp.specs.Hash.{asks_for_state}
-use Rattle.hn_dncp.specs.Tick.{ticked, tick_sends}
 use Rattle.hn_dncp.specs.Laws.{PackingIsUnique}
-use Rattle.hn_store.specs.Nodes.{Nodes}
-use Rattle.hn_store.specs.Loss.{loss_marked}
 use Rattle.hn_store.specs.Laws.{AcceptanceIsUnique}
-use Rattle.hn_store.specs.Acceptance.{PlainState}
-use Rattle.hn_store.specs.declared.state.Took.{Took}
 use Rattle.hn_store.specs.declared.state.Took.TheVariants as took
-use Rattle.hn_rules.specs.declared.state.State.{State}
-use Rattle.hn_rules.specs.declared.running.Running.{Running}
-use Rattle.hn_rules.specs.declared.running.Origin.{Origin}
 use Rattle.hn_rules.specs.declared.done.Note.TheVariants as note
 use Rattle.hn_rules.specs.declared.answers.Subject.TheVariants as subject
-use Rattle.hn_own.specs.Own.{PlainData}
-use Rattle.hn_own.specs.Ports.{endpoints_of, port_at, attached}
 use Rattle.hn_own.specs.Laws.{OwnDataIsUnique}
-use Rattle.hn_rules.specs.Nodes.{IsReach, own_leaf}
-use Rattle.hn_base.specs.Rules.{Then, Each}
-use Rattle.hn_rules.specs.Rules.{Rule, AtPort, with_words, with_port, noted, IsSole, words_of}
-use Rattle.hn_rules.specs.Refresh.{Publishes, IsPublished, next_number, IsPublishing, IsReaching, IsHashing, IsPortReset, IsReset, IsRefresh, network_state_hash}
-use Rattle.hn_rules.specs.Answers.{with_answer}
-use Rattle.hn_rules.specs.Assigning.{AreAsked, IsRunAssigned, IsAssigning}
-use Rattle.hn_rules.specs.Seen.{seen_by}
-use Rattle.hn_rules.specs.NodeEndpoint.{node_endpoint}
-use Rattle.hn_rules.specs.NetworkState.{network_state}
 use Rattle.hn_base.proofs.DecidingTests.{not_both}
-use Rattle.hn_rules.specs.Requests.{state_item, is_reached, with_state, IsNetworkRequest, request_node}
-use Rattle.hn_rules.specs.Claim.{IsFirstFreeId, IsFirstClaim, IsSecondClaim, IsClaim, is_taken}
-use Rattle.hn_rules.specs.NodeState.{took_noted, IsTaken, IsNodeState}
-use Rattle.hn_rules.specs.Arrival.{IsItemRule, IsTlvRule, IsTlvs, IsAnswering, IsArrival}
-use Rattle.hn_rules.specs.Tick.{IsExpired, Without, IsPortExpiry, IsExpiry, IsStateSending, IsPortMoving, IsPortSending, IsPortTick, IsPortsTick, forgetting}
-use Rattle.hn_rules.specs.Ticks.{IsLosing, IsSettling, IsTick}
-use Rattle.hn_rules.specs.Delegating.{ending}
-use Rattle.hn_rules.specs.Events.{IsAttaching, IsPortRestart, emptied, IsRestarting}
 use Rattle.hn_base.proofs.FirstWords.{begins_front, begins_back, begins_along}
 use Rattle.hn_rules.proofs.Arriving.{some_answer_words, node_endpoint_words}
 use Rattle.hn_base.proofs.OneResult.{sole_drawn, sole_given, sole_plain, sole_both, sole_each, sole_word, sole_from, sole_start, sole_after, sole_on, sole_or, sole_where, sole_some}

@@ -1,33 +1,15 @@
 -- What holds of the parts of a router, and that it holds after one is changed.
-use Rattle.std.proofs.Common.{◌≡◌, ◌<◌, ◌≤◌, ◌^◌, ◌∙◌, ℕ, suc, Bool, true, false, cond, not, List, [], ◌∷◌, length, map, filter, get_or, Option, Some, None, refl, sym, ap, subst, arith}
-use Rattle.std.specs.Prelude.{All, find, ◌==◌, nat_lt}
+use Rattle.hn_base.proofs.Names.{◌≡◌, ◌<◌, ◌≤◌, ◌^◌, ◌∙◌, ℕ, suc, Bool, true, false, cond, not, List, [], ◌∷◌, length, map, filter, get_or, Option, Some, None, refl, sym, ap, subst, arith, All, find}
+use Rattle.hn_base.proofs.Names.{◌==◌, option_map, option_and_then, cond_both, eqb-true, length-map, All-nil, All-cons, All-append, All-filter, All-map, All-weaker, length-filter, count_by-le-length}
+use Rattle.hn_rules.proofs.Names.{nat_lt, NodeId, EpId, Port, Stored, HeldNode, OwnLeaf, Took, Nodes, IsTable, held, put, PlainState, Accepts, stored_from, stored_renumbered, entries_changed}
+use Rattle.hn_rules.proofs.Names.{entries_after, is_among, lost_after, marked_node, loss_marked, is_forgotten, remembered, NoNodesAreTable, ascending-around, State, number, ArePorts, is_port}
+use Rattle.hn_rules.proofs.Names.{put_port, attached, detached, IsInDelegated, HasOwnPriority, IsAssignedPast, Held, PlainData, IsOwnData, AreOwnPrefixes, AreHeldPairs, IfThere, IsWell}
 use Rattle.std.specs.List.Sorted.{IsStrictlySortedBy}
-use Rattle.std.specs.Option.{option_map, option_and_then}
-use Rattle.std.proofs.lemmas.Bool.{cond_both, eqb-true}
-use Rattle.std.proofs.lemmas.List.{length-map}
-use Rattle.std.proofs.lemmas.List.Elements.{All-nil, All-cons, All-append, All-filter, All-map, All-weaker}
-use Rattle.std.proofs.lemmas.List.Sums.{length-filter, count_by-le-length}
-use Rattle.hn_base.specs.declared.ids.NodeId.{NodeId}
-use Rattle.hn_base.specs.declared.ids.EpId.{EpId}
-use Rattle.hn_dncp.specs.declared.port.Port.{Port}
-use Rattle.hn_store.specs.declared.stored.Stored.{Stored}
-use Rattle.hn_store.specs.declared.stored.HeldNode.{HeldNode}
-use Rattle.hn_store.specs.declared.state.OwnLeaf.{OwnLeaf}
-use Rattle.hn_store.specs.declared.state.Took.{Took}
 use Rattle.hn_store.specs.declared.state.Took.TheVariants.{Kept, Renumbered}
-use Rattle.hn_store.specs.Nodes.{Nodes, IsTable, held, entry, put}
-use Rattle.hn_store.specs.Acceptance.{PlainState, Accepts, stored_from, stored_renumbered, entries_changed, entries_after}
-use Rattle.hn_store.specs.Loss.{is_among, lost_after, marked_node, loss_marked, is_forgotten, remembered}
-use Rattle.hn_store.specs.Laws.{NoNodesAreTable}
-use Rattle.hn_base.proofs.AscendingNumbers.{ascending-filter, ascending-around, around-few}
-use Rattle.hn_rules.specs.declared.state.State.{State}
-use Rattle.hn_own.specs.Ports.{number, ArePorts, is_port, put_port, attached, detached}
-use Rattle.hn_assign.specs.Facts.{IsInDelegated, HasOwnPriority, IsAssignedPast}
-use Rattle.hn_assign.specs.declared.held.Held.{Held}
-use Rattle.hn_own.specs.Own.{PlainData, IsOwnData}
-use Rattle.hn_own.specs.OwnPrefixes.{AreOwnPrefixes}
-use Rattle.hn_own.specs.HeldPairs.{AreHeldPairs, no_pairs}
-use Rattle.hn_rules.specs.Router.{IfThere, IsNodePast, IsWell}
+use Rattle.hn_store.specs.Nodes.{entry}
+use Rattle.hn_base.proofs.AscendingNumbers.{ascending-filter, around-few}
+use Rattle.hn_own.specs.HeldPairs.{no_pairs}
+use Rattle.hn_rules.specs.Router.{IsNodePast}
 use Rattle.hn_rules.proofs.RangedParts.{IsRangedState}
 use Rattle.hn_rules.proofs.LawsFromBelow.{KnownLaws, held_all}
 use Rattle.hn_rules.proofs.Finding.{find-none_filter}

@@ -1,27 +1,9 @@
 -- What an arrival makes of a status update that is let pass.
-use Rattle.std.proofs.Common.{◌≡◌, ◌≢◌, ◌∙◌, ℕ, Bool, true, false, List, [], ◌∷◌, ◌++◌, Option, Some, None, inl, refl, sym, ap}
-use Rattle.std.specs.Prelude.{◌||◌, not, is_some}
-use Rattle.std.specs.Option.{option_map_or}
-use Rattle.std.specs.Str.{bytes_eq}
-use Rattle.std.proofs.lemmas.Bool.{cond-false, ne_eqb}
-use Rattle.hn_base.specs.Addr.{IsLinkLocal}
-use Rattle.hn_base.specs.declared.ids.NodeId.{NodeId}
-use Rattle.hn_base.specs.declared.ids.EpId.{EpId}
-use Rattle.hn_dncp.specs.Ask.{may_ask}
-use Rattle.hn_dncp.specs.Hash.{hashed}
-use Rattle.hn_dncp.specs.Peers.{has_peer}
-use Rattle.hn_dncp.specs.declared.port.Port.{Port}
-use Rattle.hn_own.specs.Ports.{ArePorts, port_at, put_port}
+use Rattle.hn_base.proofs.Names.{◌≡◌, ◌≢◌, ◌∙◌, ℕ, Bool, true, false, List, [], ◌∷◌, ◌++◌, Option, Some, None, inl, refl, sym, ap, ◌||◌, option_map_or, bytes_eq, cond-false, ne_eqb, IsLinkLocal}
+use Rattle.hn_rules.proofs.Names.{not, is_some, NodeId, EpId, may_ask, hashed, has_peer, Port, ArePorts, port_at, put_port, Origin, Running, State, IsTlvRule, IsTlvs, IsArrival, compared}
+use Rattle.hn_rules.proofs.Names.{network_state, node_endpoint, IsStatusUpdate, IsFresh, AtPort, begun_at, with_port}
 use Rattle.hn_typed.specs.Item as item
-use Rattle.hn_rules.specs.declared.running.Origin.{Origin}
-use Rattle.hn_rules.specs.declared.running.Running.{Running}
-use Rattle.hn_rules.specs.declared.state.State.{State}
-use Rattle.hn_rules.specs.Arrival.{IsTlvRule, IsTlvs, IsArrival}
-use Rattle.hn_rules.specs.NetworkState.{compared, network_state}
-use Rattle.hn_rules.specs.NodeEndpoint.{node_endpoint}
-use Rattle.hn_rules.specs.Passing.{IsStatusUpdate, IsLetPass}
-use Rattle.hn_rules.specs.Router.{IsFresh}
-use Rattle.hn_rules.specs.Rules.{AtPort, begun_at, with_port}
+use Rattle.hn_rules.specs.Passing.{IsLetPass}
 use Rattle.hn_rules.proofs.AtPorts.{at_port}
 use Rattle.hn_rules.proofs.RefreshChangesNothing.{same_refresh}
 use Rattle.hn_rules.proofs.Refreshes.{fresh_untouched}

@@ -1,24 +1,16 @@
 -- What holds of an endpoint still holds after each thing that happens to it.
-use Rattle.std.proofs.Common.{◌≤◌, ℕ, Bool, true, false, cond, List, [], ◌∷◌, ◌++◌, length, map, get_or, Option, Some, None, arith}
-use Rattle.std.specs.Prelude.{All, ◌==◌, slice_index}
-use Rattle.std.proofs.lemmas.Bool.{cond_both}
-use Rattle.std.proofs.lemmas.List.Elements.{All-nil, All-map, All-push}
-use Rattle.hn_base.specs.declared.ids.NodeId.{NodeId}
-use Rattle.hn_base.specs.declared.ids.EpId.{EpId}
+use Rattle.hn_base.proofs.Names.{◌≤◌, ℕ, Bool, true, false, cond, List, [], ◌∷◌, ◌++◌, length, map, get_or, Option, Some, None, arith, All, ◌==◌, cond_both, All-nil, All-map, All-push}
+use Rattle.hn_rules.proofs.Names.{NodeId, EpId, Interval, interval_from, has_to_send, is_silent, Neighbour, Port, is_peer, has_peer, attached_port, peers_heard, may_ask, asked, contacted, hashed}
+use Rattle.hn_rules.proofs.Names.{ticked, Without, IfThere}
+use Rattle.std.specs.Prelude.{slice_index}
 use Rattle.hn_base.specs.declared.addr.Addr.{Addr}
-use Rattle.hn_timers.specs.Interval.{Interval, interval_from, has_to_send, is_interval_over}
+use Rattle.hn_timers.specs.Interval.{is_interval_over}
 use Rattle.hn_timers.specs.Length.{next_length}
-use Rattle.hn_timers.specs.KeepAlive.{is_silent}
-use Rattle.hn_dncp.specs.declared.peers.Neighbour.{Neighbour}
-use Rattle.hn_dncp.specs.declared.port.Port.{Port}
-use Rattle.hn_dncp.specs.Peers.{is_peer, has_peer, IsOther, ArePeers}
-use Rattle.hn_dncp.specs.Port.{attached_port}
-use Rattle.hn_dncp.specs.Greet.{peers_heard, greeted}
-use Rattle.hn_dncp.specs.Ask.{may_ask, asked_at, asked}
-use Rattle.hn_dncp.specs.Hash.{contacted, hashed}
-use Rattle.hn_dncp.specs.Tick.{after_firing, after_interval, after_keep_alive, ticked, interval_words}
-use Rattle.hn_rules.specs.Tick.{Without}
-use Rattle.hn_rules.specs.Router.{IfThere, IsPortPast}
+use Rattle.hn_dncp.specs.Peers.{IsOther, ArePeers}
+use Rattle.hn_dncp.specs.Greet.{greeted}
+use Rattle.hn_dncp.specs.Ask.{asked_at}
+use Rattle.hn_dncp.specs.Tick.{after_firing, after_interval, after_keep_alive, interval_words}
+use Rattle.hn_rules.specs.Router.{IsPortPast}
 use Rattle.hn_rules.proofs.LawsFromBelow.{KnownLaws}
 use Rattle.hn_rules.proofs.Finding.{without-few, without-all, without-pairs}
 

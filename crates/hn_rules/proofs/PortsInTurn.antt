@@ -1,21 +1,10 @@
 -- A rule of each endpoint in turn, which changes that endpoint alone.
-use Rattle.std.proofs.Common.{◌≡◌, ◌≢◌, ◌∙◌, ◌<◌, Bool, true, false, cond, List, [], ◌∷◌, map, Option, Some, inl, inr, refl, sym, ap, subst, arith}
-use Rattle.std.specs.Prelude.{Contains, find}
-use Rattle.std.specs.Cmp.{ranked}
+use Rattle.hn_base.proofs.Names.{◌≡◌, ◌≢◌, ◌∙◌, ◌<◌, Bool, true, false, cond, List, [], ◌∷◌, map, Option, Some, inl, inr, refl, sym, ap, subst, arith, find, ranked, nat_cmp, Less, eqb-true, eq-eqb}
+use Rattle.hn_base.proofs.Names.{ne_eqb, All-contains, Each, OnSome}
+use Rattle.hn_rules.proofs.Names.{Contains, nothing_in, Contains-cases, Contains-map, Contains-from_map, passing_found, EpId, Port, number, ArePorts, is_port, port_at, put_port, endpoints_of, Running}
+use Rattle.hn_rules.proofs.Names.{State, Rule, AtPort}
 use Rattle.std.specs.List.Sorted.{IsStrictlySortedBy}
-use Rattle.std.specs.Ordering.{nat_cmp}
-use Rattle.std.specs.declared.cmp.Ordering.TheVariants.{Less}
-use Rattle.std.proofs.lemmas.Bool.{eqb-true, eq-eqb, ne_eqb}
-use Rattle.std.proofs.lemmas.List.Elements.{All-contains}
-use Rattle.hn_base.proofs.AscendingLists.{below_head, nothing_in, Contains-cases, Contains-map, Contains-from_map}
-use Rattle.hn_base.proofs.Elements.{passing_found}
-use Rattle.hn_base.specs.Rules.{Each, OnSome}
-use Rattle.hn_base.specs.declared.ids.EpId.{EpId}
-use Rattle.hn_dncp.specs.declared.port.Port.{Port}
-use Rattle.hn_own.specs.Ports.{number, ArePorts, is_port, port_at, put_port, endpoints_of}
-use Rattle.hn_rules.specs.declared.running.Running.{Running}
-use Rattle.hn_rules.specs.declared.state.State.{State}
-use Rattle.hn_rules.specs.Rules.{Rule, AtPort}
+use Rattle.hn_base.proofs.AscendingLists.{below_head}
 use Rattle.hn_rules.proofs.Leads.{keeps_each, keeps_each_of, keeps_option}
 use Rattle.hn_rules.proofs.PartsOfRouters.{are-put}
 use Rattle.hn_rules.proofs.Refreshes.{found_number, only_one}

@@ -1,18 +1,11 @@
 -- What holds of a router's private post and own addresses, and that it holds after a part of the router is changed.
-use Rattle.std.proofs.Common.{◌≡◌, ◌∙◌, ◌<◌, ℕ, Bool, true, false, cond, not, List, [], ◌∷◌, filter, get_or, Option, Some, inl, inr, refl, sym, ap, subst, arith}
-use Rattle.std.specs.Prelude.{All, Contains, IsTrue, is_some, ◌==◌, ◌||◌, nat_lt}
-use Rattle.std.proofs.lemmas.Bool.{cases_lt, cond_both, eqb-true, lt-ltb, eq-eqb}
-use Rattle.std.proofs.lemmas.List.Elements.{All-filter, All-weaker, filter_passes, Contains-append_left, Contains-append_right}
-use Rattle.hn_base.specs.declared.ids.EpId.{EpId}
-use Rattle.hn_base.proofs.AscendingLists.{Contains-head, Contains-tail, Contains-map, Contains-from_map}
-use Rattle.hn_base.proofs.Elements.{in_filter}
-use Rattle.hn_base.proofs.Keys.{id_is_found, found_is_id, same_id}
-use Rattle.hn_data.specs.declared.said.PeerLink.{PeerLink}
-use Rattle.hn_dncp.specs.declared.port.Port.{Port}
-use Rattle.hn_assign.specs.declared.assigned.Assigned.{Assigned}
-use Rattle.hn_own.specs.Addresses.{OwnAddress, AreAddresses, may_address, addresses_without}
-use Rattle.hn_own.specs.Laws.{AddressesStay, AddressesMayBe}
-use Rattle.hn_own.specs.Ports.{is_port, port_at, is_attached, put_port, attached, detached, endpoints_of}
+use Rattle.hn_base.proofs.Names.{◌≡◌, ◌∙◌, ◌<◌, ℕ, Bool, true, false, cond, not, List, [], ◌∷◌, filter, get_or, Option, Some, inl, inr, refl, sym, ap, subst, arith, All, ◌==◌, ◌||◌, cases_lt}
+use Rattle.hn_base.proofs.Names.{cond_both, eqb-true, lt-ltb, eq-eqb, All-filter, All-weaker, filter_passes, Contains-append_left, Contains-append_right}
+use Rattle.hn_rules.proofs.Names.{Contains, IsTrue, is_some, nat_lt, EpId, Contains-head, Contains-tail, Contains-map, Contains-from_map, in_filter, same_id, PeerLink, Port, Assigned, OwnAddress}
+use Rattle.hn_rules.proofs.Names.{may_address, AddressesStay, AddressesMayBe, is_port, port_at, put_port, attached, detached, endpoints_of}
+use Rattle.hn_base.proofs.Keys.{id_is_found, found_is_id}
+use Rattle.hn_own.specs.Addresses.{AreAddresses, addresses_without}
+use Rattle.hn_own.specs.Ports.{is_attached}
 
 -- the facts of the private post and of own addresses
 pub record ArePostsWell (private : Option ℕ) (ports : List Port) (addresses : List OwnAddress) (assigned : List Assigned) (links : List PeerLink) : Type 0 where

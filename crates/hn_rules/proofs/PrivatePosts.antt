@@ -1,32 +1,13 @@
 -- The private post is alone on its link, and its assignments keep the private length.
-use Rattle.std.proofs.Common.{◌≡◌, ◌∙◌, ◌<◌, ◌^◌, ℕ, List, [], ◌∷◌, Option, Some, None, inl, inr, refl, sym, ap, subst, arith}
-use Rattle.std.specs.Prelude.{All, Contains}
-use Rattle.std.proofs.lemmas.List.Elements.{All-contains, All-contains_itself, All-weaker, Contains-append_cases}
-use Rattle.hn_base.specs.declared.ids.NodeId.{NodeId}
-use Rattle.hn_base.specs.declared.ids.EpId.{EpId}
-use Rattle.hn_base.proofs.AscendingLists.{Contains-head, Contains-tail, Contains-from_map, nothing_in}
-use Rattle.hn_base.proofs.Elements.{from_filter_map}
-use Rattle.hn_base.proofs.Keys.{same_id}
-use Rattle.hn_data.specs.Peers.{HasPeer, peer_link}
-use Rattle.hn_data.specs.declared.said.PeerLink.{PeerLink}
-use Rattle.hn_data.specs.declared.view.Entry.{Entry}
+use Rattle.hn_base.proofs.Names.{◌≡◌, ◌∙◌, ◌<◌, ◌^◌, ℕ, List, [], ◌∷◌, Option, Some, None, inl, inr, refl, sym, ap, subst, arith, All, All-contains, All-contains_itself, All-weaker}
+use Rattle.hn_base.proofs.Names.{Contains-append_cases}
+use Rattle.hn_rules.proofs.Names.{Contains, NodeId, EpId, Contains-head, Contains-tail, Contains-from_map, nothing_in, from_filter_map, same_id, HasPeer, peer_link, PeerLink, Entry, Assigned, Wish}
+use Rattle.hn_rules.proofs.Names.{Pair, SubroutineKeepsLengths, AssignedAreWished, IsWished, assigned_pair, Port, IsOwnData, link_at, links_at, links_of, ArePorts, endpoints_of, private_post}
+use Rattle.hn_rules.proofs.Names.{posts_of, length_at, State, IsRunAssigned, own_entry, entry_of, view_of, seen_by}
 use Rattle.hn_link.specs.CommonLink.{IsOnCommonLink, IsLinkedWithOwn}
-use Rattle.hn_assign.specs.declared.assigned.Assigned.{Assigned}
-use Rattle.hn_assign.specs.declared.assigned.Wish.{Wish}
 use Rattle.hn_assign.specs.declared.held.Ran.{Ran}
-use Rattle.hn_assign.specs.declared.pair.Pair.{Pair}
 use Rattle.hn_assign.specs.Facts.{IsOfLengthAt, IsAloneAt}
-use Rattle.hn_assign.specs.Laws.{SubroutineKeepsLengths, AssignedAreWished}
-use Rattle.hn_assign.specs.Pair.{IsWished, assigned_pair}
-use Rattle.hn_dncp.specs.declared.port.Port.{Port}
-use Rattle.hn_own.specs.Own.{IsOwnData, link_at, links_at, links_of}
-use Rattle.hn_own.specs.Ports.{ArePorts, endpoints_of}
-use Rattle.hn_own.specs.Posts.{private_post, posts_of, length_at}
-use Rattle.hn_rules.specs.declared.state.State.{State}
-use Rattle.hn_rules.specs.Assigning.{IsRunAssigned}
 use Rattle.hn_rules.specs.Laws.{OwnPeersAreOfEndpoints, PrivatePostIsAlone}
-use Rattle.hn_rules.specs.Nodes.{own_entry, entry_of, view_of}
-use Rattle.hn_rules.specs.Seen.{seen_by}
 use Rattle.hn_rules.proofs.Entries.{entry_own, entry_named}
 use Rattle.hn_rules.proofs.LawPublished.{ReadLaws, peer_from}
 

@@ -1,21 +1,11 @@
 -- What was published stays so when more is published; and what a table holds after a change was published, or texts collide.
-use Rattle.std.proofs.Common.{◌≡◌, ◌⊎◌, ◌∙◌, ℕ, List, [], ◌++◌, Option, Some, None, inl, inr, refl, sym, subst}
-use Rattle.std.specs.Prelude.{Contains}
-use Rattle.std.proofs.lemmas.List.Elements.{Contains-append_left, Contains-append_right, Contains-append_cases}
+use Rattle.hn_base.proofs.Names.{◌≡◌, ◌⊎◌, ◌∙◌, ℕ, List, [], ◌++◌, Option, Some, None, inl, inr, refl, sym, subst, Contains-append_left, Contains-append_right, Contains-append_cases}
+use Rattle.hn_rules.proofs.Names.{Contains, hash_of, PlainTlv, PlainState, HeldIsOfAnEntry, Nodes, held, IsIntact, IsTable, Took, Stored, Answer, Publication, State, TableChange, Accept, Mark, Forget}
+use Rattle.hn_rules.proofs.Names.{Empty, MayChangeTable, table_after, TextsCollide, HoldsPublished, SaysPublished, TlvSaysPublished, TlvsSayPublished, BytesSayPublished, IsGenuineAnswer}
 use Rattle.hn_base.proofs.DecidingTests.{texts_cases}
-use Rattle.hn_hash.specs.Hash.{hash_of}
-use Rattle.hn_tlv.specs.Grammar.{PlainTlv}
-use Rattle.hn_store.specs.Acceptance.{PlainState}
 use Rattle.hn_store.specs.Brought.{WasHeld, BroughtData, BroughtNumber}
-use Rattle.hn_store.specs.Laws.{HeldIsOfAnEntry, HeldWasBrought, MarkedWasHeld, RememberedWasHeld}
-use Rattle.hn_store.specs.Nodes.{Nodes, held, IsIntact, IsTable}
-use Rattle.hn_store.specs.declared.state.Took.{Took}
-use Rattle.hn_store.specs.declared.stored.Stored.{Stored}
-use Rattle.hn_rules.specs.declared.answers.Answer.{Answer}
-use Rattle.hn_rules.specs.declared.done.Publication.{Publication}
-use Rattle.hn_rules.specs.declared.state.State.{State}
-use Rattle.hn_rules.specs.Changes.{TableChange, Accept, Mark, Forget, Empty, MayChangeTable, table_after}
-use Rattle.hn_rules.specs.Genuine.{IsText, TextsCollide, WasPublished, HoldsPublished, SaysPublished, TlvSaysPublished, TlvsSayPublished, BytesSayPublished, IsGenuineAnswer}
+use Rattle.hn_store.specs.Laws.{HeldWasBrought, MarkedWasHeld, RememberedWasHeld}
+use Rattle.hn_rules.specs.Genuine.{IsText, WasPublished}
 use Rattle.hn_rules.proofs.LawsFromBelow.{held_all}
 
 -- ---- more is published

@@ -1,44 +1,18 @@
 -- The numbers of what a router has of its own fit, and still do after one part is changed.
-use Rattle.std.proofs.Common.{◌<◌, ◌≤◌, ◌+◌, ◌*◌, ◌^◌, ℕ, cond, not, List, [], ◌∷◌, ◌++◌, length, map, filter, get_or, Option, Some, None, sym, subst, ⊎_elim, arith}
-use Rattle.std.specs.Prelude.{All, Contains, ◌==◌, nat_lt}
-use Rattle.std.specs.Str.{bytes_eq}
-use Rattle.std.proofs.lemmas.Bool.{cond_both}
-use Rattle.std.proofs.lemmas.List.Elements.{All-nil, All-cons, All-append, All-push, All-filter, All-map, All-weaker, All-contains, Contains-append_cases}
-use Rattle.hn_base.specs.Prefix.{IsPrefix}
-use Rattle.hn_base.specs.declared.ids.EpId.{EpId}
-use Rattle.hn_base.specs.declared.ids.NodeId.{NodeId}
-use Rattle.hn_base.proofs.AscendingLists.{Contains-from_map, Contains-one, nothing_in}
-use Rattle.hn_tlv.specs.Grammar.{PlainTlv}
-use Rattle.hn_assign.specs.declared.assigned.Assigned.{Assigned}
-use Rattle.hn_assign.specs.declared.backoff.Backoff.{Backoff}
+use Rattle.hn_base.proofs.Names.{◌<◌, ◌≤◌, ◌+◌, ◌*◌, ◌^◌, ℕ, cond, not, List, [], ◌∷◌, ◌++◌, length, map, filter, get_or, Option, Some, None, sym, subst, ⊎_elim, arith, All, ◌==◌, bytes_eq, cond_both}
+use Rattle.hn_base.proofs.Names.{All-nil, All-cons, All-append, All-push, All-filter, All-map, All-weaker, All-contains, Contains-append_cases, IsPrefix}
+use Rattle.hn_rules.proofs.Names.{Contains, nat_lt, EpId, NodeId, Contains-from_map, Contains-one, nothing_in, PlainTlv, Assigned, Backoff, Pair, AssignedAreWished, SubroutineKeepsPrefixes}
+use Rattle.hn_rules.proofs.Names.{SubroutineKeepsSoon, IsWished, assigned_pair, Neighbour, Port, peers_heard, contacted, is_peer, has_peer, attached_port, OwnPrefix, OwnAddress, has_ended, is_prefix}
+use Rattle.hn_rules.proofs.Names.{own_prefix, ArePorts, is_port, put_port, attached, endpoints_of, private_post, posts_of, IsRangedAddress, Running, State, IsRunAssigned, PortChange, Reset, Meet, Ask}
+use Rattle.hn_rules.proofs.Names.{Hear, Expire, Move, Begin, port_after, MayChangePort, PrefixChange, Delegate, Withdraw, End, prefixes_after, MayChangePrefixes, Change, ChangePort, ChangePrefixes}
+use Rattle.hn_rules.proofs.Names.{PutPairs, ForgetPairs, PutPrivate, PutAddresses, change, IsAllowed, IsAttaching, detaching, IsPrivateLength, IfThere, IsWell, seen_by, IsExpired}
 use Rattle.hn_assign.specs.declared.held.Ran.{Ran}
-use Rattle.hn_assign.specs.declared.pair.Pair.{Pair}
-use Rattle.hn_assign.specs.Laws.{AssignedAreWished, SubroutineKeepsPrefixes, SubroutineKeepsSoon}
 use Rattle.hn_assign.specs.Facts.{IsSoonDue}
-use Rattle.hn_assign.specs.Pair.{IsWished, assigned_pair}
-use Rattle.hn_dncp.specs.declared.peers.Neighbour.{Neighbour}
-use Rattle.hn_dncp.specs.declared.port.Port.{Port}
-use Rattle.hn_dncp.specs.Greet.{peers_heard}
-use Rattle.hn_dncp.specs.Hash.{contacted}
-use Rattle.hn_dncp.specs.Peers.{is_peer, has_peer}
-use Rattle.hn_dncp.specs.Port.{attached_port}
-use Rattle.hn_own.specs.declared.own_prefixes.OwnPrefix.{OwnPrefix}
-use Rattle.hn_own.specs.Addresses.{OwnAddress}
-use Rattle.hn_own.specs.Lifetimes.{end_after, has_ended}
-use Rattle.hn_own.specs.OwnPrefixes.{is_before, is_prefix, own_prefix}
-use Rattle.hn_own.specs.Ports.{ArePorts, is_port, put_port, attached, endpoints_of}
-use Rattle.hn_own.specs.Posts.{private_post, private_posts, posts_of}
-use Rattle.hn_own.specs.Ranges.{IsRangedPeer, IsRangedHeld, IsRangedAddress, IsRangedOwn}
-use Rattle.hn_rules.specs.declared.running.Running.{Running}
-use Rattle.hn_rules.specs.declared.state.State.{State}
-use Rattle.hn_rules.specs.Assigning.{IsRunAssigned}
-use Rattle.hn_rules.specs.Changes.{PortChange, Reset, Meet, Ask, Hear, Expire, Move, Begin, port_after, MayChangePort, PrefixChange, Delegate, Withdraw, End, prefixes_after, MayChangePrefixes, Change}
-use Rattle.hn_rules.specs.Changes.{ChangePort, ChangePrefixes, PutPairs, ForgetPairs, PutPrivate, PutAddresses, change, IsAllowed}
-use Rattle.hn_rules.specs.Events.{IsAttaching, detaching}
-use Rattle.hn_rules.specs.Given.{IsPrivateLength}
-use Rattle.hn_rules.specs.Router.{IfThere, EndsSoon, IsNear, IsWell}
-use Rattle.hn_rules.specs.Seen.{seen_by}
-use Rattle.hn_rules.specs.Tick.{IsExpired}
+use Rattle.hn_own.specs.Lifetimes.{end_after}
+use Rattle.hn_own.specs.OwnPrefixes.{is_before}
+use Rattle.hn_own.specs.Posts.{private_posts}
+use Rattle.hn_own.specs.Ranges.{IsRangedPeer, IsRangedHeld, IsRangedOwn}
+use Rattle.hn_rules.specs.Router.{EndsSoon, IsNear}
 use Rattle.hn_rules.proofs.Finding.{find_all, without-all}
 
 -- the numbers of a router

@@ -1,46 +1,18 @@
 -- Where nodes say the same peers, the same nodes stay reachable.
-use Rattle.std.proofs.Common.{◌≡◌, ◌≢◌, ◌∙◌, ◌-◌, ◌^◌, ◌<◌, ◌≤◌, ℕ, Bool, true, false, List, ◌∷◌, filter, nat_lt, Option, Some, None, inl, inr, refl, sym, ap, subst, arith, ⊎_elim}
-use Rattle.std.specs.Prelude.{All, is_none, Contains, ◌⊎◌, ◌==◌, ◌&&◌, ◌↔◌, IfSome, IsSomeAnd}
-use Rattle.std.specs.Option.{option_map, option_and_then}
-use Rattle.std.specs.Ordering.{nat_cmp}
-use Rattle.std.proofs.lemmas.Bool.{cases_eq, cond-true, eq-eqb, eqb-true}
+use Rattle.hn_base.proofs.Names.{◌≡◌, ◌≢◌, ◌∙◌, ◌-◌, ◌^◌, ◌<◌, ◌≤◌, ℕ, Bool, true, false, List, ◌∷◌, filter, nat_lt, Option, Some, None, inl, inr, refl, sym, ap, subst, arith, ⊎_elim, All, is_none}
+use Rattle.hn_base.proofs.Names.{◌==◌, ◌&&◌, option_map, option_and_then, nat_cmp, cases_eq, cond-true, eq-eqb, eqb-true, Decides-and, Decides-eqb, Decides-like, nat_cmp_total, All-contains}
+use Rattle.hn_base.proofs.Names.{All-contains_itself, All-weaker, Contains-append_left, Contains-append_right, Contains-append_cases, same_Some}
+use Rattle.hn_rules.proofs.Names.{Contains, ◌⊎◌, ◌↔◌, IfSome, Contains-tail, Contains-cases, Contains-map, Contains-from_map, sorted_parts, found_passes, in_filter, from_filter, passing_found}
+use Rattle.hn_rules.proofs.Names.{one_of_ascending, NodeId, HasPeer, PeerLink, Entry, ReachabilityStays, IsReachable, Held, Port, delegated_after, OwnPrefix, PlainState, stored_from}
+use Rattle.hn_rules.proofs.Names.{stored_renumbered, entries_changed, entries_after, HeldIsOfAnEntry, is_among, Nodes, held, put, IsTable, Took, HeldNode, Stored, State, Running, IsAssigning, ending}
+use Rattle.hn_rules.proofs.Names.{IsExpiry, KnowsReach, HaveSamePeers, LeadsAs, TakesState, IsTaken, age_at, held_entry, own_entry, held_entries, nodes_of, own_leaf, IsReach, next_number}
+use Rattle.hn_rules.proofs.Names.{IsPublishing, IsReaching, IsRefreshed, IsUntouched}
+use Rattle.std.specs.Prelude.{IsSomeAnd}
 use Rattle.std.specs.Bool.{Decides}
-use Rattle.std.proofs.lemmas.Bool.Decides.{Decides-and, Decides-eqb, Decides-like}
-use Rattle.std.proofs.lemmas.Cmp.{nat_cmp_total}
-use Rattle.std.proofs.lemmas.List.Elements.{All-contains, All-contains_itself, All-weaker, Contains-append_left, Contains-append_right, Contains-append_cases}
-use Rattle.std.proofs.lemmas.Option.{same_Some}
-use Rattle.hn_base.proofs.AscendingLists.{Contains-tail, Contains-cases, Contains-map, Contains-from_map, sorted_parts}
-use Rattle.hn_base.proofs.Elements.{found_passes, in_filter, from_filter, passing_found}
-use Rattle.hn_base.proofs.PartsAtPlaces.{one_of_ascending}
-use Rattle.hn_base.specs.declared.ids.NodeId.{NodeId}
-use Rattle.hn_data.specs.Peers.{HasPeer}
-use Rattle.hn_data.specs.declared.said.PeerLink.{PeerLink}
-use Rattle.hn_data.specs.declared.view.Entry.{Entry}
-use Rattle.hn_graph.specs.Laws.{ReachabilityStays}
-use Rattle.hn_graph.specs.Path.{IsReachable}
 use Rattle.hn_graph.specs.SameLinks.{SaysSamePeers, KeepsLinks, SameLinksReach}
-use Rattle.hn_assign.specs.declared.held.Held.{Held}
-use Rattle.hn_dncp.specs.declared.port.Port.{Port}
-use Rattle.hn_own.specs.OwnPrefixes.{delegated_after}
-use Rattle.hn_own.specs.declared.own_prefixes.OwnPrefix.{OwnPrefix}
-use Rattle.hn_store.specs.Acceptance.{PlainState, stored_from, stored_renumbered, entries_changed, entries_after}
-use Rattle.hn_store.specs.Laws.{HeldIsOfAnEntry, OthersStay, PutChangesOneNode}
-use Rattle.hn_store.specs.Loss.{is_among}
-use Rattle.hn_store.specs.Nodes.{Nodes, held, put, IsTable}
-use Rattle.hn_store.specs.declared.state.Took.{Took}
+use Rattle.hn_store.specs.Laws.{OthersStay, PutChangesOneNode}
 use Rattle.hn_store.specs.declared.state.Took.TheVariants as took
-use Rattle.hn_store.specs.declared.stored.HeldNode.{HeldNode}
-use Rattle.hn_store.specs.declared.stored.Stored.{Stored}
-use Rattle.hn_rules.specs.declared.state.State.{State}
-use Rattle.hn_rules.specs.declared.running.Running.{Running}
-use Rattle.hn_rules.specs.Assigning.{IsAssigning}
-use Rattle.hn_rules.specs.Delegating.{ending}
-use Rattle.hn_rules.specs.Tick.{IsExpiry}
-use Rattle.hn_rules.specs.KnownReach.{KnowsReach, HaveSamePeers, IsLeading, LeadsAs}
-use Rattle.hn_rules.specs.NodeState.{TakesState, IsTaken}
-use Rattle.hn_rules.specs.Nodes.{age_at, held_entry, own_entry, held_entries, nodes_of, own_leaf, IsReach}
-use Rattle.hn_rules.specs.Refresh.{next_number, IsPublishing, IsReaching}
-use Rattle.hn_rules.specs.Router.{IsRefreshed, IsUntouched}
+use Rattle.hn_rules.specs.KnownReach.{IsLeading}
 use Rattle.hn_rules.proofs.Forgetting.{IsMarked}
 use Rattle.hn_rules.proofs.Refreshes.{refreshed_untouched}
 use Rattle.hn_rules.proofs.NoPeerExpired.{expiry_ports}

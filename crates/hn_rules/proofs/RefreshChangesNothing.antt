@@ -1,20 +1,8 @@
 -- Where nothing was touched and no age is due, a refresh changes nothing.
-use Rattle.std.proofs.Common.{◌≡◌, ◌<◌, ◌≤◌, ◌-◌, ◌^◌, ◌∙◌, ℕ, Bool, true, false, List, [], ◌∷◌, map, filter, nat_lt, Option, Some, None, inl, inr, refl, sym, ap, subst, arith}
-use Rattle.std.specs.Prelude.{All, is_none, Contains, ◌⊎◌}
-use Rattle.std.proofs.lemmas.List.Elements.{All-head, All-tail, All-contains, Contains-append_left, Contains-append_right, Contains-append_cases}
-use Rattle.hn_base.specs.declared.ids.NodeId.{NodeId}
-use Rattle.hn_base.proofs.AscendingLists.{Contains-head, Contains-tail, Contains-cases, Contains-map, Contains-from_map}
-use Rattle.hn_base.proofs.Elements.{in_filter, from_filter}
-use Rattle.hn_data.specs.declared.view.Entry.{Entry}
-use Rattle.hn_graph.specs.Path.{IsReachable}
-use Rattle.hn_graph.specs.Laws.{IsLike, KeepsReach, ReachabilityStays}
-use Rattle.hn_store.specs.Loss.{is_among, lost_after, marked_node}
-use Rattle.hn_store.specs.declared.stored.HeldNode.{HeldNode}
-use Rattle.hn_rules.specs.declared.state.State.{State}
-use Rattle.hn_rules.specs.declared.running.Running.{Running}
-use Rattle.hn_rules.specs.Nodes.{age_at, held_entry, own_entry, IsReach}
-use Rattle.hn_rules.specs.Refresh.{IsReaching, IsRefresh}
-use Rattle.hn_rules.specs.Router.{IsRefreshed, IsFresh}
+use Rattle.hn_base.proofs.Names.{◌≡◌, ◌<◌, ◌≤◌, ◌-◌, ◌^◌, ◌∙◌, ℕ, Bool, true, false, List, [], ◌∷◌, map, filter, nat_lt, Option, Some, None, inl, inr, refl, sym, ap, subst, arith, All, is_none}
+use Rattle.hn_base.proofs.Names.{All-head, All-tail, All-contains, Contains-append_left, Contains-append_right, Contains-append_cases}
+use Rattle.hn_rules.proofs.Names.{Contains, ◌⊎◌, NodeId, Contains-head, Contains-tail, Contains-cases, Contains-map, Contains-from_map, in_filter, from_filter, Entry, IsReachable, IsLike, KeepsReach}
+use Rattle.hn_rules.proofs.Names.{ReachabilityStays, is_among, lost_after, marked_node, HeldNode, State, Running, age_at, held_entry, own_entry, IsReach, IsReaching, IsRefresh, IsRefreshed, IsFresh}
 use Rattle.hn_rules.proofs.Forgetting.{between, among_reach, IsMarked}
 use Rattle.hn_base.proofs.DecidingTests.{from_is_none}
 

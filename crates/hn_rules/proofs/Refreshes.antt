@@ -1,32 +1,10 @@
 -- What a refresh makes, and what keeps it.
-use Rattle.std.proofs.Common.{◌≡◌, ◌<◌, ◌≤◌, ◌-◌, ◌^◌, ◌∙◌, ℕ, Bool, true, false, cond, List, [], ◌∷◌, ◌++◌, map, filter, get_or, nat_lt, Option, Some, inl, inr, refl, sym, ap, subst, arith}
-use Rattle.std.specs.Prelude.{All, find, is_none, ◌↔◌, Contains}
-use Rattle.std.specs.Ordering.{nat_cmp}
-use Rattle.std.specs.declared.cmp.Ordering.TheVariants.{Less}
-use Rattle.std.specs.List.{AllByRecursion}
+use Rattle.hn_base.proofs.Names.{◌≡◌, ◌<◌, ◌≤◌, ◌-◌, ◌^◌, ◌∙◌, ℕ, Bool, true, false, cond, List, [], ◌∷◌, ◌++◌, map, filter, get_or, nat_lt, Option, Some, inl, inr, refl, sym, ap, subst, arith, All}
+use Rattle.hn_base.proofs.Names.{find, is_none, nat_cmp, Less, AllByRecursion, ranked, cond_both, eqb-true, eqb-false, All-nil, All-cons, All-head, All-tail, All-map, All-weaker}
+use Rattle.hn_rules.proofs.Names.{◌↔◌, Contains, NodeId, EpId, Entry, IsReachable, interval_from, Port, ticked, HeldNode, is_among, lost_after, marked_node, State, Running, links_at, links_of, number}
+use Rattle.hn_rules.proofs.Names.{ArePorts, is_port, port_at, put_port, endpoints_of, held_entry, own_entry, IsReach, Rule, AtPort, with_port, own_items, IsPublishing, IsReaching, network_state_hash}
+use Rattle.hn_rules.proofs.Names.{IsPortReset, IsHashing, IsRefresh, IsPortSending, IsPortTick, IsPortsTick, EachKeeps, IsWell, IsRefreshed, IsFresh, IsUntouched, IsRouter}
 use Rattle.std.specs.List.Sorted.{IsStrictlySortedBy}
-use Rattle.std.specs.Cmp.{ranked}
-use Rattle.std.proofs.lemmas.Bool.{cond_both, eqb-true, eqb-false}
-use Rattle.std.proofs.lemmas.List.Elements.{All-nil, All-cons, All-head, All-tail, All-map, All-weaker}
-use Rattle.hn_base.specs.declared.ids.NodeId.{NodeId}
-use Rattle.hn_base.specs.declared.ids.EpId.{EpId}
-use Rattle.hn_data.specs.declared.view.Entry.{Entry}
-use Rattle.hn_graph.specs.Path.{IsReachable}
-use Rattle.hn_timers.specs.Interval.{interval_from}
-use Rattle.hn_dncp.specs.declared.port.Port.{Port}
-use Rattle.hn_dncp.specs.Tick.{ticked}
-use Rattle.hn_store.specs.declared.stored.HeldNode.{HeldNode}
-use Rattle.hn_store.specs.Loss.{is_among, lost_after, marked_node}
-use Rattle.hn_rules.specs.declared.state.State.{State}
-use Rattle.hn_rules.specs.declared.running.Running.{Running}
-use Rattle.hn_own.specs.Own.{links_at, links_of}
-use Rattle.hn_own.specs.Ports.{number, ArePorts, is_port, port_at, put_port, endpoints_of}
-use Rattle.hn_rules.specs.Nodes.{held_entry, own_entry, IsReach}
-use Rattle.hn_rules.specs.Rules.{Rule, AtPort, with_port}
-use Rattle.hn_rules.specs.Refresh.{own_items, IsPublishing, IsReaching, network_state_hash, IsPortReset, IsHashing, IsRefresh}
-use Rattle.hn_rules.specs.Tick.{IsPortSending, IsPortTick, IsPortsTick}
-use Rattle.hn_rules.specs.Changes.{EachKeeps}
-use Rattle.hn_rules.specs.Router.{IsWell, IsRefreshed, IsFresh, IsUntouched, IsRouter}
 use Rattle.hn_rules.proofs.PartsOfRouters.{are-put}
 use Rattle.hn_rules.proofs.Leads.{Keeps, keeps_option, keeps_each}
 use Rattle.hn_rules.proofs.Walk.{refresh_walk, ports_walk}

@@ -1,15 +1,7 @@
 -- A refresh, and the words that its steps take.
-use Rattle.std.proofs.Common.{◌≡◌, ◌≢◌, ◌∙◌, ℕ, List, [], ◌∷◌, ◌++◌, Option, Some, ap, refl, sym, subst, inl, inr}
-use Rattle.hn_base.specs.declared.ids.EpId.{EpId}
-use Rattle.hn_base.specs.Words.{Drew}
-use Rattle.hn_timers.specs.Interval.{Interval, interval_from}
-use Rattle.hn_dncp.specs.declared.port.Port.{Port}
-use Rattle.hn_rules.specs.declared.done.Publication.{Publication}
-use Rattle.hn_rules.specs.declared.running.Running.{Running}
-use Rattle.hn_own.specs.Own.{PlainData, IsOwnData}
-use Rattle.hn_own.specs.Ports.{port_at}
-use Rattle.hn_rules.specs.Rules.{AtPort, Ran, with_words, with_port}
-use Rattle.hn_rules.specs.Refresh.{own_items, IsPortReset, Publishes, IsPublishing, IsReaching, IsHashing, IsRefresh}
+use Rattle.hn_base.proofs.Names.{◌≡◌, ◌≢◌, ◌∙◌, ℕ, List, [], ◌∷◌, ◌++◌, Option, Some, ap, refl, sym, subst, inl, inr, Drew}
+use Rattle.hn_rules.proofs.Names.{EpId, Interval, interval_from, Port, Publication, Running, PlainData, IsOwnData, port_at, AtPort, Ran, with_words, with_port, own_items, IsPortReset, Publishes}
+use Rattle.hn_rules.proofs.Names.{IsPublishing, IsReaching, IsHashing, IsRefresh}
 use Rattle.hn_rules.proofs.AtPorts.{at_port}
 
 -- what was written is a publication

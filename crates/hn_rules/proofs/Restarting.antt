@@ -1,15 +1,6 @@
 -- A restart, and the words that it takes.
-use Rattle.std.proofs.Common.{◌≡◌, ◌∙◌, ℕ, true, List, [], ◌∷◌, Option, Some, None, is_some, ap, refl, sym, subst}
-use Rattle.hn_base.specs.declared.ids.EpId.{EpId}
-use Rattle.hn_base.specs.Words.{Drew}
-use Rattle.hn_dncp.specs.declared.port.Port.{Port}
-use Rattle.hn_dncp.specs.Port.{attached_port}
-use Rattle.hn_rules.specs.declared.running.Running.{Running}
-use Rattle.hn_own.specs.Ports.{port_at, endpoints_of}
-use Rattle.hn_base.specs.Rules.{Then, Each}
-use Rattle.hn_rules.specs.Rules.{AtPort, Ran, with_words, with_port}
-use Rattle.hn_rules.specs.Refresh.{Publishes}
-use Rattle.hn_rules.specs.Events.{IsPortRestart, emptied, IsRestarting}
+use Rattle.hn_base.proofs.Names.{◌≡◌, ◌∙◌, ℕ, true, List, [], ◌∷◌, Option, Some, None, is_some, ap, refl, sym, subst, Drew, Then, Each}
+use Rattle.hn_rules.proofs.Names.{EpId, Port, attached_port, Running, port_at, endpoints_of, AtPort, Ran, with_words, with_port, Publishes, IsPortRestart, emptied, IsRestarting}
 use Rattle.hn_rules.proofs.AtPorts.{at_port, found_id}
 
 -- an endpoint that is attached begins anew

@@ -1,44 +1,12 @@
 -- Where a rule finds that nothing changes, it leaves the router as it is.
-use Rattle.std.proofs.Common.{◌≡◌, ◌∙◌, ℕ, Bool, true, false, cond, List, [], ◌∷◌, Option, Some, None, inr, refl, sym, ap}
-use Rattle.std.specs.Prelude.{All, ◌||◌, not}
-use Rattle.std.proofs.lemmas.Bool.{cond-false}
-use Rattle.std.proofs.lemmas.List.{append-nil}
-use Rattle.std.proofs.lemmas.List.Elements.{All-contains}
-use Rattle.hn_base.proofs.Elements.{found_passes}
-use Rattle.hn_base.specs.Rules.{RuleOf, Each, OnSome}
-use Rattle.hn_base.specs.declared.ids.NodeId.{NodeId}
-use Rattle.hn_base.specs.declared.ids.EpId.{EpId}
-use Rattle.hn_dncp.specs.Ask.{may_ask, asked}
-use Rattle.hn_dncp.specs.Due.{IsPortStill, IsIdleAt}
-use Rattle.hn_dncp.specs.Greet.{greeting}
+use Rattle.hn_base.proofs.Names.{◌≡◌, ◌∙◌, ℕ, Bool, true, false, cond, List, [], ◌∷◌, Option, Some, None, inr, refl, sym, ap, All, ◌||◌, cond-false, append-nil, All-contains, RuleOf, Each, OnSome}
+use Rattle.hn_base.proofs.Names.{Begins, get_or}
+use Rattle.hn_rules.proofs.Names.{not, found_passes, NodeId, EpId, may_ask, asked, IsPortStill, IsIdleAt, greeting, hashed, StillPortIsIdle, has_peer, ticked, Greet, Known, Unknown, Neighbour, Port}
+use Rattle.hn_rules.proofs.Names.{ArePorts, is_port, port_at, endpoints_of, PlainState, Accepts, Nodes, OwnLeaf, Took, Origin, Running, with_answer, compared, greeting_port, met, named, TakesState}
+use Rattle.hn_rules.proofs.Names.{own_leaf, Rule, AtPort, IsSole, with_port, with_words, AreHeard, IsExpired, IsPortExpiry, IsExpiry, IsPortMoving, IsPortTick, IsPortsTick}
 use Rattle.hn_dncp.specs.Greet as dncp
-use Rattle.hn_dncp.specs.Hash.{hashed}
-use Rattle.hn_dncp.specs.Laws.{StillPortIsIdle}
-use Rattle.hn_dncp.specs.Peers.{has_peer}
-use Rattle.hn_dncp.specs.Tick.{ticked}
-use Rattle.hn_dncp.specs.declared.greet.Greet.{Greet}
-use Rattle.hn_dncp.specs.declared.greet.Greet.TheVariants.{Known, Unknown}
-use Rattle.hn_dncp.specs.declared.peers.Neighbour.{Neighbour}
-use Rattle.hn_dncp.specs.declared.port.Port.{Port}
-use Rattle.hn_own.specs.Ports.{ArePorts, is_port, port_at, endpoints_of}
 use Rattle.hn_typed.specs.Item as item
-use Rattle.hn_store.specs.Acceptance.{PlainState, Accepts}
-use Rattle.hn_store.specs.Nodes.{Nodes}
-use Rattle.hn_store.specs.declared.state.OwnLeaf.{OwnLeaf}
-use Rattle.hn_store.specs.declared.state.Took.{Took}
 use Rattle.hn_rules.specs.declared.answers.Subject.TheVariants as subject
-use Rattle.hn_rules.specs.declared.running.Origin.{Origin}
-use Rattle.hn_rules.specs.declared.running.Running.{Running}
-use Rattle.hn_rules.specs.Answers.{with_answer}
-use Rattle.hn_rules.specs.NetworkState.{compared}
-use Rattle.hn_rules.specs.NodeEndpoint.{greeting_port, met, named}
-use Rattle.hn_rules.specs.NodeState.{TakesState}
-use Rattle.hn_rules.specs.Nodes.{own_leaf}
-use Rattle.hn_rules.specs.Rules.{Rule, AtPort, IsSole, with_port, with_words}
-use Rattle.hn_rules.specs.Still.{AreHeard}
-use Rattle.hn_rules.specs.Tick.{IsExpired, IsPortExpiry, IsExpiry, IsPortMoving, IsPortTick, IsPortsTick}
-use Rattle.hn_base.specs.Words.{Begins}
-use Rattle.std.proofs.Common.{get_or}
 use Rattle.hn_rules.proofs.TouchesNothingRead.{none_expire, put_found}
 
 -- a rule that changes nothing at any element

@@ -1,25 +1,9 @@
 -- A refresh makes a router, and what keeps one.
-use Rattle.std.proofs.Common.{◌≡◌, ℕ, List, [], ◌∷◌, Option, refl, sym, subst, arith}
-use Rattle.hn_base.specs.declared.caps.Caps.{Caps}
-use Rattle.hn_base.specs.declared.ids.EpId.{EpId}
-use Rattle.hn_base.specs.Prefix.{PlainPrefix}
-use Rattle.hn_base.specs.Rules.{Then}
-use Rattle.hn_graph.specs.Laws.{ReachabilityStays}
-use Rattle.hn_tlv.specs.Grammar.{PlainTlv}
-use Rattle.hn_own.specs.Laws.{AddressesStay}
-use Rattle.hn_rules.specs.declared.running.Running.{Running}
-use Rattle.hn_rules.specs.declared.running.Origin.{Origin}
-use Rattle.hn_rules.specs.declared.state.State.{State}
-use Rattle.hn_rules.specs.Arrival.{IsTlvRule, IsTlvs, IsArrival}
-use Rattle.hn_rules.specs.Changes.{EachKeeps}
-use Rattle.hn_rules.specs.Given.{IsPrivateLength}
-use Rattle.hn_rules.specs.Delegating.{withdrawing, ending}
-use Rattle.hn_rules.specs.Events.{detaching, setting_caps, setting_private, IsRestarting}
-use Rattle.hn_rules.specs.Laws.{ChangesKeepWell, KeepsRouter, KeepsWell, RefreshMakesRouter, RouterStaysLater, AssigningKeeps, DelegatingKeeps, AttachingKeeps, AddressingKeeps}
-use Rattle.hn_rules.specs.Refresh.{IsRefresh}
-use Rattle.hn_rules.specs.Router.{IsRefreshed}
-use Rattle.hn_rules.specs.Rules.{Rule}
-use Rattle.hn_rules.specs.Tick.{IsExpiry, forgetting, IsPortsTick}
+use Rattle.hn_base.proofs.Names.{◌≡◌, ℕ, List, [], ◌∷◌, Option, refl, sym, subst, arith, PlainPrefix, Then}
+use Rattle.hn_rules.proofs.Names.{Caps, EpId, ReachabilityStays, PlainTlv, AddressesStay, Running, Origin, State, IsTlvRule, IsTlvs, IsArrival, EachKeeps, IsPrivateLength, withdrawing, ending}
+use Rattle.hn_rules.proofs.Names.{detaching, setting_caps, setting_private, IsRestarting, ChangesKeepWell, KeepsRouter, KeepsWell, RefreshMakesRouter, RouterStaysLater, AssigningKeeps, IsRefresh}
+use Rattle.hn_rules.proofs.Names.{IsRefreshed, Rule, IsExpiry, forgetting, IsPortsTick}
+use Rattle.hn_rules.specs.Laws.{DelegatingKeeps, AttachingKeeps, AddressingKeeps}
 use Rattle.hn_rules.proofs.Forgetting.{refreshed_forgetting}
 use Rattle.hn_rules.proofs.Leads.{Keeps, keeps_plain, keeps_each}
 use Rattle.hn_rules.proofs.PartsOfRouters.{made_from, well_from, made-later}

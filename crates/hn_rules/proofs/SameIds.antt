@@ -1,13 +1,7 @@
 -- A tick keeps the identifier.
-use Rattle.std.proofs.Common.{◌≡◌, ◌∙◌, inl, inr, refl, ap}
-use Rattle.hn_dncp.specs.declared.port.Port.{Port}
-use Rattle.hn_own.specs.Ports.{endpoints_of}
-use Rattle.hn_rules.specs.declared.running.Running.{Running}
-use Rattle.hn_rules.specs.declared.state.State.{State}
-use Rattle.hn_rules.specs.Refresh.{IsPortReset, IsPublishing, IsHashing, IsRefresh}
+use Rattle.hn_base.proofs.Names.{◌≡◌, ◌∙◌, inl, inr, refl, ap}
+use Rattle.hn_rules.proofs.Names.{Port, endpoints_of, Running, State, IsPortReset, IsPublishing, IsHashing, IsRefresh, AtPort, IsTick}
 use Rattle.hn_rules.specs.Rested.{KeepsId}
-use Rattle.hn_rules.specs.Rules.{AtPort}
-use Rattle.hn_rules.specs.Ticks.{IsTick}
 use Rattle.hn_rules.proofs.Leads.{keeps_each, keeps_option}
 use Rattle.hn_rules.proofs.NoPeerExpired.{expiry_ports}
 use Rattle.hn_rules.proofs.SilentPorts.{ticks_ports}

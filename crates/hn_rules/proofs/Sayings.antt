@@ -1,30 +1,12 @@
 -- What is answered and sent says what was published.
-use Rattle.std.proofs.Common.{◌≡◌, ◌≢◌, ◌-◌, ◌⊎◌, ℕ, Bool, true, false, List, [], ◌∷◌, ◌++◌, map, Some, inl, inr, refl, sym, subst, arith}
-use Rattle.std.specs.Prelude.{All}
-use Rattle.std.proofs.lemmas.List.Elements.{All-nil, All-cons, All-head, All-tail, All-map, All-contains, Contains-append_left, Contains-append_right, Contains-append_cases}
-use Rattle.hn_base.specs.declared.ids.EpId.{EpId}
-use Rattle.hn_base.specs.declared.ids.NodeId.{NodeId}
-use Rattle.hn_tlv.specs.Grammar.{PlainTlv, IsTlv, IsTlvList, spelling}
-use Rattle.hn_tlv.specs.Laws.{ListIsUnique}
-use Rattle.hn_typed.specs.Fields.{IsHash}
-use Rattle.hn_typed.specs.Item.{PlainItem, RequestNetwork, RequestNode, NetworkState, NodeState}
-use Rattle.hn_typed.specs.Written.{tlv_of}
-use Rattle.hn_dncp.specs.Laws.{PackingIsRead}
-use Rattle.hn_dncp.specs.Packing.{IsPacking, AreRead, sender_tlv}
-use Rattle.hn_store.specs.Nodes.{held, IsIntact}
-use Rattle.hn_store.specs.declared.stored.Stored.{Stored}
-use Rattle.hn_rules.specs.declared.answers.Answer.{Answer}
-use Rattle.hn_rules.specs.declared.answers.Subject.{Subject}
+use Rattle.hn_base.proofs.Names.{◌≡◌, ◌≢◌, ◌-◌, ◌⊎◌, ℕ, Bool, true, false, List, [], ◌∷◌, ◌++◌, map, Some, inl, inr, refl, sym, subst, arith, All, All-nil, All-cons, All-head, All-tail, All-map}
+use Rattle.hn_base.proofs.Names.{All-contains, Contains-append_left, Contains-append_right, Contains-append_cases}
+use Rattle.hn_rules.proofs.Names.{EpId, NodeId, PlainTlv, IsTlv, IsTlvList, spelling, ListIsUnique, IsHash, PlainItem, RequestNetwork, RequestNode, NetworkState, NodeState, tlv_of, PackingIsRead}
+use Rattle.hn_rules.proofs.Names.{IsPacking, AreRead, sender_tlv, held, IsIntact, Stored, Answer, Subject, Outgoing, Publication, Running, State, ArePacked, IsAnswerAbout, HoldsPublished}
+use Rattle.hn_rules.proofs.Names.{SaysPublished, TlvSaysPublished, TlvsSayPublished, BytesSayPublished, IsGenuineAnswer, age_at, sent_age, sent_data, own_state, held_state, state_item, IsWell}
+use Rattle.hn_rules.proofs.Names.{IsHashed}
 use Rattle.hn_rules.specs.declared.answers.Subject.TheVariants as subject
-use Rattle.hn_rules.specs.declared.done.Outgoing.{Outgoing}
-use Rattle.hn_rules.specs.declared.done.Publication.{Publication}
-use Rattle.hn_rules.specs.declared.running.Running.{Running}
-use Rattle.hn_rules.specs.declared.state.State.{State}
-use Rattle.hn_rules.specs.Changes.{ArePacked, IsAnswerAbout}
-use Rattle.hn_rules.specs.Genuine.{HoldsPublished, IsGenuine, SaysPublished, TlvSaysPublished, TlvsSayPublished, BytesSayPublished, IsGenuineAnswer}
-use Rattle.hn_rules.specs.Nodes.{age_at}
-use Rattle.hn_rules.specs.Requests.{sent_age, sent_data, own_state, held_state, state_item}
-use Rattle.hn_rules.specs.Router.{IsWell, IsHashed}
+use Rattle.hn_rules.specs.Genuine.{IsGenuine}
 use Rattle.hn_rules.proofs.AnswerTlvs.{AnswerLaws, network_tlv, IsSentState, state_writable, of_known, own_sent, held_sent, answer_tlv}
 use Rattle.hn_rules.proofs.LawsFromBelow.{held_all}
 

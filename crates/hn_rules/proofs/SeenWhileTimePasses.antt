@@ -1,27 +1,11 @@
 -- What a router sees, and what is due for it, while time passes and nothing happens.
-use Rattle.std.proofs.Common.{◌≡◌, ◌∙◌, ◌↔◌, ℕ, ◌+◌, ◌-◌, ◌^◌, ◌<◌, ◌≤◌, List, Option, Some, None, Contains, inl, inr, refl, sym, ap, subst, arith}
-use Rattle.std.specs.List.{filter_map}
-use Rattle.std.specs.Option.{option_map}
-use Rattle.std.proofs.lemmas.Bool.{cases_eq}
-use Rattle.hn_base.proofs.AscendingLists.{Contains-map, Contains-from_map}
+use Rattle.hn_base.proofs.Names.{◌≡◌, ◌∙◌, ◌↔◌, ℕ, ◌+◌, ◌-◌, ◌^◌, ◌<◌, ◌≤◌, List, Option, Some, None, Contains, inl, inr, refl, sym, ap, subst, arith, filter_map, option_map, cases_eq, IsSooner}
+use Rattle.hn_rules.proofs.Names.{Contains-map, Contains-from_map, NodeId, IsLater, Entry, HeldIsOfAnEntry, held, Stored, IsAgeLimit, IsLifetimeEnd, State, IsDueAt, NextDueStays, held_entry}
+use Rattle.hn_rules.proofs.Names.{own_entry, entry_of, view_of, seen_by, at_moment}
 use Rattle.hn_base.proofs.NextDue.{next_stays}
-use Rattle.hn_base.specs.Sooner.{IsSooner}
-use Rattle.hn_base.specs.declared.ids.NodeId.{NodeId}
-use Rattle.hn_data.specs.Later.{IsLater, aged_entry}
-use Rattle.hn_data.specs.declared.view.Entry.{Entry}
-use Rattle.hn_store.specs.Laws.{HeldIsOfAnEntry}
-use Rattle.hn_store.specs.Nodes.{held}
-use Rattle.hn_store.specs.declared.stored.Stored.{Stored}
-use Rattle.hn_graph.specs.Later.{IsAgeLimit}
-use Rattle.hn_deleg.specs.Due.{IsLifetimeEnd}
+use Rattle.hn_data.specs.Later.{aged_entry}
 use Rattle.hn_deleg.specs.Laws.{EndsOfLater}
-use Rattle.hn_rules.specs.declared.state.State.{State}
-use Rattle.hn_rules.specs.Due.{IsDueAt}
-use Rattle.hn_rules.specs.Laws.{NextDueStays}
-use Rattle.hn_rules.specs.Nodes.{held_entry, own_entry, entry_of, view_of}
 use Rattle.hn_rules.specs.Router.{IsPast}
-use Rattle.hn_rules.specs.Seen.{seen_by}
-use Rattle.hn_rules.specs.Still.{at_moment}
 use Rattle.hn_rules.proofs.Entries.{entry_own, entry_other}
 use Rattle.hn_rules.proofs.LawsFromBelow.{held_all}
 use Rattle.hn_rules.proofs.NodeLists.{mapped_each}

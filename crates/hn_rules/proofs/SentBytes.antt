@@ -1,24 +1,8 @@
 -- A datagram that is sent is a list of bytes.
-use Rattle.std.proofs.Common.{◌≡◌, ◌⊎◌, ℕ, List, [], ◌∷◌, map, inl, inr, refl, sym, subst}
-use Rattle.std.specs.Prelude.{All}
-use Rattle.std.proofs.lemmas.Bool.{cond_both}
-use Rattle.std.proofs.lemmas.List.Elements.{All-nil, All-cons, All-head, All-tail, All-append, All-push, All-map}
-use Rattle.hn_base.specs.Byte.{IsByte}
-use Rattle.hn_base.specs.declared.ids.EpId.{EpId}
-use Rattle.hn_base.specs.declared.ids.NodeId.{NodeId}
-use Rattle.hn_tlv.specs.Grammar.{PlainTlv, IsTlv, spelling}
-use Rattle.hn_tlv.specs.Laws.{ListIsOfBytes}
-use Rattle.hn_typed.specs.Fields.{IsHash}
-use Rattle.hn_typed.specs.Item.{NetworkState}
-use Rattle.hn_typed.specs.Written.{tlv_of}
-use Rattle.hn_dncp.specs.Laws.{PackingIsRead}
-use Rattle.hn_dncp.specs.Packing.{IsPacking, AreRead, sender_tlv}
-use Rattle.hn_rules.specs.declared.answers.Answer.{Answer}
-use Rattle.hn_rules.specs.declared.done.Outgoing.{Outgoing}
-use Rattle.hn_rules.specs.declared.running.Running.{Running}
-use Rattle.hn_rules.specs.Answers.{is_answered}
-use Rattle.hn_rules.specs.Changes.{ArePacked, AddAnswer, AddSends, ForgetAnswers}
-use Rattle.hn_rules.specs.Laws.{ChangesKeepHashed, ChangesKeepBytes}
+use Rattle.hn_base.proofs.Names.{◌≡◌, ◌⊎◌, ℕ, List, [], ◌∷◌, map, inl, inr, refl, sym, subst, All, cond_both, All-nil, All-cons, All-head, All-tail, All-append, All-push, All-map, IsByte}
+use Rattle.hn_rules.proofs.Names.{EpId, NodeId, PlainTlv, IsTlv, spelling, ListIsOfBytes, IsHash, NetworkState, tlv_of, PackingIsRead, IsPacking, AreRead, sender_tlv, Answer, Outgoing, Running}
+use Rattle.hn_rules.proofs.Names.{is_answered, ArePacked, AddAnswer, AddSends, ForgetAnswers, ChangesKeepHashed}
+use Rattle.hn_rules.specs.Laws.{ChangesKeepBytes}
 use Rattle.hn_rules.specs.Spelled.{IsSpelled}
 use Rattle.hn_rules.proofs.AnswerTlvs.{AnswerLaws, network_tlv, answer_tlv}
 

@@ -1,24 +1,8 @@
 -- After a tick each endpoint last sent less than 20 s ago.
-use Rattle.std.proofs.Common.{◌≡◌, ◌∙◌, ◌<◌, ◌+◌, ◌-◌, ℕ, Bool, true, false, cond, List, Some, inl, inr, refl, sym, ap, subst, arith}
-use Rattle.std.specs.Prelude.{Contains}
-use Rattle.std.proofs.lemmas.Bool.{leb-false}
-use Rattle.std.proofs.lemmas.Option.{same_Some}
-use Rattle.hn_base.proofs.AscendingLists.{Contains-map, Contains-from_map}
-use Rattle.hn_base.specs.declared.ids.EpId.{EpId}
-use Rattle.hn_timers.specs.Interval.{has_to_send}
-use Rattle.hn_timers.specs.KeepAlive.{is_silent}
-use Rattle.hn_dncp.specs.Tick.{ticked}
-use Rattle.hn_dncp.specs.declared.port.Port.{Port}
-use Rattle.hn_own.specs.Ports.{ArePorts, port_at, endpoints_of}
-use Rattle.hn_rules.specs.declared.running.Running.{Running}
-use Rattle.hn_rules.specs.declared.state.State.{State}
-use Rattle.hn_rules.specs.Assigning.{IsAssigning}
-use Rattle.hn_rules.specs.Delegating.{ending}
-use Rattle.hn_rules.specs.Laws.{RouterStaysLater, KeepsRouter, KeepsWell, KeepsEndpoints, RefreshMakesRouter, AssigningKeeps}
-use Rattle.hn_rules.specs.Refresh.{IsRefresh}
-use Rattle.hn_rules.specs.Router.{IsWell, IsRouter}
-use Rattle.hn_rules.specs.Rules.{begun_at}
-use Rattle.hn_rules.specs.Tick.{IsExpiry, forgetting, IsPortSending, IsPortTick, IsPortsTick}
+use Rattle.hn_base.proofs.Names.{◌≡◌, ◌∙◌, ◌<◌, ◌+◌, ◌-◌, ℕ, Bool, true, false, cond, List, Some, inl, inr, refl, sym, ap, subst, arith, leb-false, same_Some}
+use Rattle.hn_rules.proofs.Names.{Contains, Contains-map, Contains-from_map, EpId, has_to_send, is_silent, ticked, Port, ArePorts, port_at, endpoints_of, Running, State, IsAssigning, ending}
+use Rattle.hn_rules.proofs.Names.{RouterStaysLater, KeepsRouter, KeepsWell, KeepsEndpoints, RefreshMakesRouter, AssigningKeeps, IsRefresh, IsWell, IsRouter, begun_at, IsExpiry, forgetting}
+use Rattle.hn_rules.proofs.Names.{IsPortSending, IsPortTick, IsPortsTick}
 use Rattle.hn_rules.specs.Updates.{TicksHaveSent}
 use Rattle.hn_rules.proofs.PortsInTurn.{found_itself, apart, Puts, are_ports, ran_at}
 

@@ -1,33 +1,14 @@
 -- What is answered and sent is short.
-use Rattle.std.proofs.Common.{◌≡◌, ◌≤◌, ◌+◌, ◌-◌, ◌⊎◌, ◌∙◌, ℕ, Bool, true, false, List, [], ◌∷◌, length, map, Some, inl, inr, lit≤, sym, ap, subst, arith, length-append}
-use Rattle.std.specs.Prelude.{All}
-use Rattle.std.proofs.lemmas.Bool.{cond_both}
-use Rattle.std.proofs.lemmas.List.{length-replicate}
-use Rattle.std.proofs.lemmas.List.Elements.{All-nil, All-cons, All-append, All-push, All-map, All-weaker, All-contains}
-use Rattle.hn_base.specs.declared.ids.NodeId.{NodeId}
-use Rattle.hn_hash.specs.Laws.{HashHasEightBytes}
-use Rattle.hn_tlv.specs.Grammar.{PlainTlv, spelling}
-use Rattle.hn_typed.specs.Fields.{IsHash}
-use Rattle.hn_typed.specs.Item.{PlainItem, NetworkState, NodeState}
-use Rattle.hn_typed.specs.Written.{value_of, tlv_of}
+use Rattle.hn_base.proofs.Names.{◌≡◌, ◌≤◌, ◌+◌, ◌-◌, ◌⊎◌, ◌∙◌, ℕ, Bool, true, false, List, [], ◌∷◌, length, map, Some, inl, inr, lit≤, sym, ap, subst, arith, length-append, All, cond_both}
+use Rattle.hn_base.proofs.Names.{length-replicate, All-nil, All-cons, All-append, All-push, All-map, All-weaker, All-contains}
+use Rattle.hn_rules.proofs.Names.{NodeId, HashHasEightBytes, PlainTlv, spelling, IsHash, PlainItem, NetworkState, NodeState, value_of, tlv_of, HeldIsOfAnEntry, IsIntact, Stored, Subject, Answer}
+use Rattle.hn_rules.proofs.Names.{Outgoing, Running, State, is_answered, ArePacked, IsAnswerAbout, AddAnswer, AddSends, ForgetAnswers, ChangesKeepHashed, age_at, sent_age, sent_data, own_state}
+use Rattle.hn_rules.proofs.Names.{held_state, state_item, IsWell}
 use Rattle.hn_dncp.specs.Laws.{PackingIsShort}
 use Rattle.hn_dncp.specs.Packing.{IsShortDatagram}
-use Rattle.hn_store.specs.Laws.{HeldIsOfAnEntry}
-use Rattle.hn_store.specs.Nodes.{IsIntact}
-use Rattle.hn_store.specs.declared.stored.Stored.{Stored}
-use Rattle.hn_rules.specs.declared.answers.Subject.{Subject}
 use Rattle.hn_rules.specs.declared.answers.Subject.TheVariants as subject
-use Rattle.hn_rules.specs.declared.answers.Answer.{Answer}
-use Rattle.hn_rules.specs.declared.done.Outgoing.{Outgoing}
-use Rattle.hn_rules.specs.declared.running.Running.{Running}
-use Rattle.hn_rules.specs.declared.state.State.{State}
-use Rattle.hn_rules.specs.Answers.{is_answered}
-use Rattle.hn_rules.specs.Changes.{ArePacked, IsAnswerAbout, AddAnswer, AddSends, ForgetAnswers}
-use Rattle.hn_rules.specs.Laws.{ChangesKeepHashed, ChangesKeepShort}
+use Rattle.hn_rules.specs.Laws.{ChangesKeepShort}
 use Rattle.hn_rules.specs.Lengths.{most_answer, most_datagram}
-use Rattle.hn_rules.specs.Nodes.{age_at}
-use Rattle.hn_rules.specs.Requests.{sent_age, sent_data, own_state, held_state, state_item}
-use Rattle.hn_rules.specs.Router.{IsWell}
 use Rattle.hn_rules.proofs.AnswerTlvs.{of_known}
 use Rattle.hn_rules.proofs.LawsFromBelow.{held_all}
 

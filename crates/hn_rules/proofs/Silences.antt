@@ -1,21 +1,7 @@
 -- Where nothing came of rules in the end, nothing had come of them before.
-use Rattle.std.proofs.Common.{◌≡◌, ◌∙◌, ℕ, List, [], ◌∷◌, ◌++◌, refl, sym, ap, subst, inl, inr}
-use Rattle.std.proofs.lemmas.List.{append-nil}
-use Rattle.hn_base.specs.declared.ids.EpId.{EpId}
-use Rattle.hn_base.specs.declared.ids.NodeId.{NodeId}
-use Rattle.hn_base.specs.Rules.{Each, OnSome}
-use Rattle.std.proofs.Common.{Option, None, Some}
-use Rattle.hn_dncp.specs.declared.port.Port.{Port}
-use Rattle.hn_own.specs.Ports.{port_at, endpoints_of}
-use Rattle.hn_store.specs.Loss.{loss_marked}
-use Rattle.hn_rules.specs.declared.done.Done.{Done}
-use Rattle.hn_rules.specs.declared.running.Running.{Running}
-use Rattle.hn_rules.specs.declared.state.State.{State}
-use Rattle.hn_rules.specs.Done.{nothing}
-use Rattle.hn_rules.specs.Nodes.{IsReach}
-use Rattle.hn_rules.specs.Refresh.{IsPublished, IsPublishing, IsPortReset, IsHashing, IsRefresh, network_state_hash}
-use Rattle.hn_rules.specs.Rules.{Rule, AtPort}
-use Rattle.hn_rules.specs.Grows.{BeginsWith, GrowsFrom}
+use Rattle.hn_base.proofs.Names.{◌≡◌, ◌∙◌, ℕ, List, [], ◌∷◌, ◌++◌, refl, sym, ap, subst, inl, inr, append-nil, Each, OnSome, Option, None, Some}
+use Rattle.hn_rules.proofs.Names.{EpId, NodeId, Port, port_at, endpoints_of, loss_marked, Done, Running, State, nothing, IsReach, IsPublished, IsPublishing, IsPortReset, IsHashing, IsRefresh}
+use Rattle.hn_rules.proofs.Names.{network_state_hash, Rule, AtPort, BeginsWith, GrowsFrom}
 use Rattle.hn_rules.proofs.Growing.{only_add}
 use Rattle.hn_rules.proofs.Leads.{Walk}
 

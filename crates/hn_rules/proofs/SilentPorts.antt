@@ -1,21 +1,7 @@
 -- Where nothing came of a tick of the endpoints and they are as they were, nothing is due there.
-use Rattle.std.proofs.Common.{◌≡◌, ◌∙◌, ℕ, ◌<◌, false, List, [], ◌∷◌, map, length, Option, Some, None, inl, inr, refl, sym, ap, subst, arith}
-use Rattle.std.specs.Prelude.{All, Contains}
-use Rattle.hn_base.proofs.AscendingLists.{Contains-map}
-use Rattle.hn_base.proofs.Elements.{all_of}
-use Rattle.hn_base.specs.Rules.{Each, OnSome}
-use Rattle.hn_base.specs.declared.ids.EpId.{EpId}
-use Rattle.hn_dncp.specs.Due.{IsIdleAt}
-use Rattle.hn_dncp.specs.Laws.{PackingIsNotEmpty}
-use Rattle.hn_dncp.specs.Tick.{ticked, tick_words, tick_sends}
-use Rattle.hn_dncp.specs.declared.port.Port.{Port}
-use Rattle.hn_own.specs.Ports.{ArePorts, port_at, endpoints_of}
-use Rattle.hn_rules.specs.declared.done.Done.{Done}
-use Rattle.hn_rules.specs.declared.done.Outgoing.{Outgoing}
-use Rattle.hn_rules.specs.declared.running.Running.{Running}
-use Rattle.hn_rules.specs.declared.state.State.{State}
-use Rattle.hn_rules.specs.Rules.{AtPort}
-use Rattle.hn_rules.specs.Tick.{IsPortSending, IsPortTick, IsPortsTick}
+use Rattle.hn_base.proofs.Names.{◌≡◌, ◌∙◌, ℕ, ◌<◌, false, List, [], ◌∷◌, map, length, Option, Some, None, inl, inr, refl, sym, ap, subst, arith, All, Each, OnSome}
+use Rattle.hn_rules.proofs.Names.{Contains, Contains-map, all_of, EpId, IsIdleAt, PackingIsNotEmpty, ticked, tick_words, tick_sends, Port, ArePorts, port_at, endpoints_of, Done, Outgoing, Running}
+use Rattle.hn_rules.proofs.Names.{State, AtPort, IsPortSending, IsPortTick, IsPortsTick}
 use Rattle.hn_rules.proofs.PortsInTurn.{Puts, apart, found_itself, ports_alone, ran_at, with_ports}
 use Rattle.hn_rules.proofs.Silences.{Silent, none_before, none_after, same_done}
 

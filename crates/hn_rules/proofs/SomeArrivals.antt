@@ -1,39 +1,17 @@
 -- An arrival has a result over each stream of words: it cannot be that there is none.
-use Rattle.std.proofs.Common.{◌≡◌, ◌<◌, ◌+◌, ◌%◌, ◌^◌, ◌∙◌, ◌⊎◌, ℕ, true, false, List, [], ◌∷◌, ◌++◌, Option, Some, None, length, map, ap, refl, sym, inl, inr, arith}
-use Rattle.std.specs.Prelude.{All}
-use Rattle.std.proofs.lemmas.Bool.{cases_Bool}
-use Rattle.std.proofs.lemmas.List.Elements.{All-contains}
-use Rattle.hn_base.specs.Exists.{Some! }
-use Rattle.hn_base.specs.Rules.{Then, Each}
-use Rattle.hn_base.proofs.AscendingLists.{Contains-head}
-use Rattle.hn_base.proofs.SomeExists.{IsFirstIfAny, some_then, some_first}
-use Rattle.hn_base.proofs.SomeResult.{total_given, total_plain, total_word, total_from, total_by, total_both, total_each, total_start, total_after, total_some, total_test}
-use Rattle.hn_tlv.specs.Grammar.{PlainTlv, IsTlv}
-use Rattle.hn_typed.specs.Item.{PlainItem}
+use Rattle.hn_base.proofs.Names.{◌≡◌, ◌<◌, ◌+◌, ◌%◌, ◌^◌, ◌∙◌, ◌⊎◌, ℕ, true, false, List, [], ◌∷◌, ◌++◌, Option, Some, None, length, map, ap, refl, sym, inl, inr, arith, All, cases_Bool, All-contains}
+use Rattle.hn_base.proofs.Names.{Some!, Then, Each}
+use Rattle.hn_rules.proofs.Names.{Contains-head, some_then, total_given, total_plain, total_word, total_from, total_by, total_both, total_each, total_start, total_after, total_test, PlainTlv, IsTlv}
+use Rattle.hn_rules.proofs.Names.{PlainItem, ItemOrFault, PackingExists, Nodes, IsTable, PlainState, Accepts, Took, Running, Origin, State, with_answer, IsItemRule, IsTlvRule, IsTlvs, IsAnswering}
+use Rattle.hn_rules.proofs.Names.{IsArrival, IsSaid, ChangeTable, Accept, IsFirstFreeId, IsClaim, is_taken, network_state, node_endpoint, own_leaf, took_noted, IsTaken, IsNodeState, Publishes}
+use Rattle.hn_rules.proofs.Names.{IsRefresh, state_item, with_state, IsNetworkRequest, request_node, IsTotal, noted, with_words, words_of}
+use Rattle.hn_base.proofs.SomeExists.{IsFirstIfAny, some_first}
+use Rattle.hn_base.proofs.SomeResult.{total_some}
 use Rattle.hn_typed.specs.Item as item
-use Rattle.hn_typed.specs.Laws.{ItemOrFault}
-use Rattle.hn_dncp.specs.Laws.{PackingExists}
-use Rattle.hn_store.specs.Nodes.{Nodes, IsTable}
 use Rattle.hn_store.specs.Laws.{AcceptanceExists}
-use Rattle.hn_store.specs.Acceptance.{PlainState, Accepts}
-use Rattle.hn_store.specs.declared.state.Took.{Took}
 use Rattle.hn_store.specs.declared.state.Took.TheVariants as took
-use Rattle.hn_rules.specs.declared.running.Running.{Running}
-use Rattle.hn_rules.specs.declared.running.Origin.{Origin}
-use Rattle.hn_rules.specs.declared.state.State.{State}
 use Rattle.hn_rules.specs.declared.done.Note.TheVariants as note
 use Rattle.hn_rules.specs.declared.answers.Subject.TheVariants as subject
-use Rattle.hn_rules.specs.Answers.{with_answer}
-use Rattle.hn_rules.specs.Arrival.{IsItemRule, IsTlvRule, IsTlvs, IsAnswering, IsArrival}
-use Rattle.hn_rules.specs.Changes.{IsSaid, ChangeTable, Accept}
-use Rattle.hn_rules.specs.Claim.{IsFirstFreeId, IsClaim, is_taken}
-use Rattle.hn_rules.specs.NetworkState.{network_state}
-use Rattle.hn_rules.specs.NodeEndpoint.{node_endpoint}
-use Rattle.hn_rules.specs.Nodes.{own_leaf}
-use Rattle.hn_rules.specs.NodeState.{took_noted, IsTaken, IsNodeState}
-use Rattle.hn_rules.specs.Refresh.{Publishes, IsRefresh}
-use Rattle.hn_rules.specs.Requests.{state_item, with_state, IsNetworkRequest, request_node}
-use Rattle.hn_rules.specs.Rules.{IsTotal, noted, with_words, words_of}
 use Rattle.hn_rules.proofs.Arriving.{some_answer_words, node_endpoint_words}
 use Rattle.hn_rules.proofs.FreeIds.{free-after}
 use Rattle.hn_rules.proofs.OneResults.{published_words, network_state_words, request_node_words}

@@ -1,35 +1,15 @@
 -- A refresh has a result over each stream of words: it cannot be that there is none.
-use Rattle.std.proofs.Common.{◌≡◌, ◌∙◌, ℕ, List, [], ◌∷◌, ◌++◌, Some, map, Contains, ap, refl, subst}
-use Rattle.std.specs.Prelude.{◌≢◌}
-use Rattle.std.specs.Ordering.{nat_cmp}
-use Rattle.std.specs.List.Sorted.{IsStrictlySortedBy}
-use Rattle.hn_base.specs.Exists.{Some! }
-use Rattle.hn_base.specs.NodeIds.{node_cmp}
-use Rattle.hn_base.specs.declared.ids.NodeId.{NodeId}
-use Rattle.hn_base.specs.declared.ids.EpId.{EpId}
-use Rattle.hn_base.specs.Rules.{Then, Each}
-use Rattle.hn_base.proofs.AscendingLists.{Contains-map, Contains-from_map, sorted_parts}
-use Rattle.hn_base.proofs.SomeExists.{some_is, some_then, some_part}
-use Rattle.hn_base.proofs.SomeResult.{total_given, total_plain, total_word, total_by, total_both, total_each, total_start, total_after, total_on, total_cases}
-use Rattle.hn_data.specs.View.{ids_of}
-use Rattle.hn_data.specs.declared.view.Entry.{Entry}
-use Rattle.hn_timers.specs.Interval.{interval_from}
-use Rattle.hn_dncp.specs.declared.port.Port.{Port}
-use Rattle.hn_graph.specs.Path.{IsReachable}
+use Rattle.hn_base.proofs.Names.{◌≡◌, ◌∙◌, ℕ, List, [], ◌∷◌, ◌++◌, Some, map, Contains, ap, refl, subst, nat_cmp, IsStrictlySortedBy, Some!, node_cmp, Then, Each}
+use Rattle.hn_rules.proofs.Names.{◌≢◌, NodeId, EpId, Contains-map, Contains-from_map, sorted_parts, some_is, some_then, total_given, total_plain, total_word, total_by, total_both, total_each}
+use Rattle.hn_rules.proofs.Names.{total_start, total_after, ids_of, Entry, interval_from, Port, IsReachable, loss_marked, IsTable, endpoints_of, port_at, Running, State, ChangesKeepWell, nodes_of}
+use Rattle.hn_rules.proofs.Names.{IsReach, own_items, Publishes, IsPublished, next_number, IsPublishing, IsReaching, IsPortReset, IsReset, IsHashing, IsRefresh, network_state_hash, IsWell, Rule}
+use Rattle.hn_rules.proofs.Names.{AtPort, IsTotal, with_port, with_words, words_of}
+use Rattle.hn_base.proofs.SomeExists.{some_part}
+use Rattle.hn_base.proofs.SomeResult.{total_on, total_cases}
 use Rattle.hn_graph.specs.Laws.{ReachableIsANode}
-use Rattle.hn_store.specs.Loss.{loss_marked}
-use Rattle.hn_store.specs.Nodes.{IsTable}
 use Rattle.hn_own.specs.Laws.{OwnDataExists, OwnItemsAreFew, OwnItemsAreRanged}
 use Rattle.hn_own.specs.Own.{AreFew}
-use Rattle.hn_own.specs.Ports.{endpoints_of, port_at}
 use Rattle.hn_own.specs.Ranges.{AreRanged}
-use Rattle.hn_rules.specs.declared.running.Running.{Running}
-use Rattle.hn_rules.specs.declared.state.State.{State}
-use Rattle.hn_rules.specs.Laws.{ChangesKeepWell}
-use Rattle.hn_rules.specs.Nodes.{nodes_of, IsReach}
-use Rattle.hn_rules.specs.Refresh.{own_items, Publishes, IsPublished, next_number, IsPublishing, IsReaching, IsPortReset, IsReset, IsHashing, IsRefresh, network_state_hash}
-use Rattle.hn_rules.specs.Router.{IsWell}
-use Rattle.hn_rules.specs.Rules.{Rule, AtPort, IsTotal, with_port, with_words, words_of}
 use Rattle.hn_rules.proofs.NodeLists.{nodes_are_network}
 use Rattle.hn_rules.proofs.OneResults.{published_words}
 use Rattle.hn_rules.proofs.Walk.{publishing}

@@ -1,28 +1,12 @@
 -- A tick has a result over each stream of words, and so have the other events that take words: it cannot be that there is none.
-use Rattle.std.proofs.Common.{◌≡◌, ℕ, false, List, [], ◌∷◌, ◌++◌, None, IsTrue, length, map, ap, refl, inl, inr}
-use Rattle.hn_base.specs.Exists.{Some! }
-use Rattle.hn_base.specs.Rules.{Then, Each}
-use Rattle.hn_base.specs.declared.ids.EpId.{EpId}
-use Rattle.hn_base.proofs.SomeExists.{some_is, some_then, some_by}
-use Rattle.hn_base.proofs.SomeResult.{total_given, total_plain, total_drawn, total_from, total_by, total_both, total_start, total_after, total_test}
-use Rattle.hn_tlv.specs.Grammar.{spelling}
+use Rattle.hn_base.proofs.Names.{◌≡◌, ℕ, false, List, [], ◌∷◌, ◌++◌, None, IsTrue, length, map, ap, refl, inl, inr, Some!, Then, Each}
+use Rattle.hn_rules.proofs.Names.{EpId, some_is, some_then, total_given, total_plain, total_from, total_by, total_both, total_start, total_after, total_test, spelling, tlv_of, Port, PackingExists}
+use Rattle.hn_rules.proofs.Names.{attached_port, ticked, tick_words, tick_sends, endpoints_of, attached, Running, IsAssigning, ending, IsAttaching, IsPortRestart, emptied, IsRestarting, KeepsRouter}
+use Rattle.hn_rules.proofs.Names.{RefreshMakesRouter, Publishes, IsRefresh, IsRouter, Rule, AtPort, IsTotal, with_port, with_words, words_of, IsExpired, Without, IsPortExpiry, IsExpiry}
+use Rattle.hn_rules.proofs.Names.{IsStateSending, IsPortMoving, IsPortSending, IsPortTick, IsPortsTick, forgetting, IsLosing, IsSettling, IsTick}
+use Rattle.hn_base.proofs.SomeExists.{some_by}
+use Rattle.hn_base.proofs.SomeResult.{total_drawn}
 use Rattle.hn_typed.specs.Item as item
-use Rattle.hn_typed.specs.Written.{tlv_of}
-use Rattle.hn_dncp.specs.declared.port.Port.{Port}
-use Rattle.hn_dncp.specs.Laws.{PackingExists}
-use Rattle.hn_dncp.specs.Port.{attached_port}
-use Rattle.hn_dncp.specs.Tick.{ticked, tick_words, tick_sends}
-use Rattle.hn_own.specs.Ports.{endpoints_of, attached}
-use Rattle.hn_rules.specs.declared.running.Running.{Running}
-use Rattle.hn_rules.specs.Assigning.{IsAssigning}
-use Rattle.hn_rules.specs.Delegating.{ending}
-use Rattle.hn_rules.specs.Events.{IsAttaching, IsPortRestart, emptied, IsRestarting}
-use Rattle.hn_rules.specs.Laws.{KeepsRouter, RefreshMakesRouter}
-use Rattle.hn_rules.specs.Refresh.{Publishes, IsRefresh}
-use Rattle.hn_rules.specs.Router.{IsRouter}
-use Rattle.hn_rules.specs.Rules.{Rule, AtPort, IsTotal, with_port, with_words, words_of}
-use Rattle.hn_rules.specs.Tick.{IsExpired, Without, IsPortExpiry, IsExpiry, IsStateSending, IsPortMoving, IsPortSending, IsPortTick, IsPortsTick, forgetting}
-use Rattle.hn_rules.specs.Ticks.{IsLosing, IsSettling, IsTick}
 use Rattle.hn_rules.proofs.SomeRefreshes.{RefreshLaws, Well, Any, CanPublish, can_publish, total_attached, total_ports, total_publishes, total_refresh, total_taking}
 use Rattle.hn_rules.proofs.SomeWishes.{AssigningLaws, total_assigning}
 use Rattle.hn_rules.proofs.Walk.{at_ports, assigning_walk, beginning, emptied_walk, ending_walk, expiry_walk}

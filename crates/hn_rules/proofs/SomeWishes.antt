@@ -1,44 +1,22 @@
 -- There is a list of what is asked for a router's posts, and a run of the assignment subroutine over a stream of words cannot be missing.
-use Rattle.std.proofs.Common.{◌≡◌, ◌∙◌, ◌≤◌, ◌<◌, ◌+◌, ℕ, true, false, List, [], ◌∷◌, ◌++◌, length, map, Contains, Option, Some, None, refl, sym, subst, inl, inr, arith}
-use Rattle.std.specs.Prelude.{All, ◌↔◌, ◌==◌}
-use Rattle.std.specs.Cmp.{IsTotalOrder}
-use Rattle.std.specs.List.{slice_get}
-use Rattle.std.specs.List.Sorted.{IsStrictlySortedBy}
-use Rattle.std.proofs.lemmas.Bool.{cond_both, cases_lt, cases_eq}
-use Rattle.std.proofs.lemmas.List.Elements.{All-contains, Contains-append_left, Contains-append_right, Contains-append_cases}
-use Rattle.std.proofs.lemmas.Option.{slice_get_read, same_Some}
-use Rattle.hn_base.specs.Ascending.{IsExact}
-use Rattle.hn_base.specs.Exists.{Some! }
-use Rattle.hn_base.specs.Prefix.{PlainPrefix, IsPrefix}
-use Rattle.hn_base.specs.Words.{Begins}
-use Rattle.hn_base.specs.declared.ids.EpId.{EpId}
-use Rattle.hn_base.proofs.AscendingLists.{Contains-head, Contains-tail, Contains-cases, Contains-map, Contains-from_map, nothing_in, sorted_parts}
+use Rattle.hn_base.proofs.Names.{◌≡◌, ◌∙◌, ◌≤◌, ◌<◌, ◌+◌, ℕ, true, false, List, [], ◌∷◌, ◌++◌, length, map, Contains, Option, Some, None, refl, sym, subst, inl, inr, arith, All, ◌==◌, IsTotalOrder}
+use Rattle.hn_base.proofs.Names.{IsStrictlySortedBy, cond_both, cases_lt, cases_eq, All-contains, Contains-append_left, Contains-append_right, Contains-append_cases, slice_get_read, same_Some}
+use Rattle.hn_base.proofs.Names.{IsExact, Some!, PlainPrefix, IsPrefix, Begins}
+use Rattle.hn_rules.proofs.Names.{◌↔◌, slice_get, EpId, Contains-head, Contains-tail, Contains-cases, Contains-map, Contains-from_map, nothing_in, sorted_parts, all_of, contains_at, some_then}
+use Rattle.hn_rules.proofs.Names.{IsNetwork, Delegated, AreUsable, IsUnwanted, prefixes_of, CommonLinkIsUnique, Wish, Pair, pair_cmp, wish_pair, posts_of, length_at, State, AreAsked, IsRunAssigned}
+use Rattle.hn_rules.proofs.Names.{IsPrivateLength, ViewIsNetwork, view_of, IsRouter, with_words, seen_by}
 use Rattle.hn_base.proofs.AscendingMade.{ascending_of}
-use Rattle.hn_base.proofs.Elements.{all_of}
 use Rattle.hn_base.proofs.FirstWords.{begins_both}
-use Rattle.hn_base.proofs.PartsAtPlaces.{contains_at}
-use Rattle.hn_base.proofs.SomeExists.{IsEach, some_then}
+use Rattle.hn_base.proofs.SomeExists.{IsEach}
 use Rattle.hn_base.proofs.SoOrNot.{Decided, one_or_none}
-use Rattle.hn_data.specs.View.{IsNetwork}
-use Rattle.hn_deleg.specs.declared.delegated.Delegated.{Delegated}
 use Rattle.hn_deleg.specs.Laws.{UsableExists, UsableArePrefixes}
-use Rattle.hn_deleg.specs.Used.{AreUsable, IsOutermost, IsUnwanted, prefixes_of}
-use Rattle.hn_link.specs.Laws.{CommonLinkExists, CommonLinkIsUnique}
-use Rattle.hn_assign.specs.declared.assigned.Wish.{Wish}
+use Rattle.hn_deleg.specs.Used.{IsOutermost}
+use Rattle.hn_link.specs.Laws.{CommonLinkExists}
 use Rattle.hn_assign.specs.declared.held.Ran.{Ran as Assigned}
-use Rattle.hn_assign.specs.declared.pair.Pair.{Pair}
 use Rattle.hn_assign.specs.Facts.{IsFitting}
 use Rattle.hn_assign.specs.Laws.{SubroutineHasAResult}
-use Rattle.hn_assign.specs.Pair.{pair_cmp, wish_pair}
-use Rattle.hn_own.specs.Posts.{posts_of, length_at}
-use Rattle.hn_rules.specs.declared.state.State.{State}
-use Rattle.hn_rules.specs.Assigning.{IsWishFor, AreAsked, IsRunAssigned}
-use Rattle.hn_rules.specs.Given.{IsPrivateLength}
-use Rattle.hn_rules.specs.Laws.{ViewIsNetwork, AssigningHasAResult, WishesExist}
-use Rattle.hn_rules.specs.Nodes.{view_of}
-use Rattle.hn_rules.specs.Router.{IsRouter}
-use Rattle.hn_rules.specs.Rules.{with_words}
-use Rattle.hn_rules.specs.Seen.{seen_by}
+use Rattle.hn_rules.specs.Assigning.{IsWishFor}
+use Rattle.hn_rules.specs.Laws.{AssigningHasAResult, WishesExist}
 use Rattle.hn_rules.proofs.WishLists.{one_wish}
 
 -- ---- the pairs of a prefix and an endpoint

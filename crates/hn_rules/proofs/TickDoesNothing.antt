@@ -1,46 +1,15 @@
 -- A tick does nothing if and only if each part of it leaves the router as it is.
-use Rattle.std.proofs.Common.{◌≡◌, ◌∙◌, ◌↔◌, ℕ, ◌-◌, ◌^◌, ◌<◌, ◌≤◌, ◌+◌, Bool, true, false, nat_le, List, [], ◌∷◌, ◌++◌, map, filter, nat_lt, Option, Some, None, refl, sym, ap, subst, arith}
-use Rattle.std.specs.Prelude.{All, Contains}
-use Rattle.std.specs.List.{list_any}
-use Rattle.std.specs.Option.{option_map_or}
-use Rattle.std.proofs.lemmas.Bool.{or_parts, lt-leb}
-use Rattle.std.specs.List.Sorted.{IsStrictlySortedBy}
-use Rattle.std.proofs.lemmas.List.Elements.{All-contains, All-filter}
-use Rattle.hn_base.proofs.Elements.{all_of}
-use Rattle.hn_base.specs.NodeIds.{node_cmp}
-use Rattle.hn_base.specs.declared.ids.NodeId.{NodeId}
-use Rattle.hn_assign.specs.declared.held.Held.{Held}
+use Rattle.hn_base.proofs.Names.{◌≡◌, ◌∙◌, ◌↔◌, ℕ, ◌-◌, ◌^◌, ◌<◌, ◌≤◌, ◌+◌, Bool, true, false, List, [], ◌∷◌, ◌++◌, map, filter, nat_lt, Option, Some, None, refl, sym, ap, subst, arith, All, list_any}
+use Rattle.hn_base.proofs.Names.{option_map_or, or_parts, lt-leb, IsStrictlySortedBy, All-contains, All-filter, node_cmp, Begins}
+use Rattle.hn_rules.proofs.Names.{nat_le, Contains, all_of, NodeId, Held, Entry, IsPortStill, IsIdleAt, PackingIsNotEmpty, StillPortIsIdle, IsReachable, NoneEnds, links_of, delegated_after}
+use Rattle.hn_rules.proofs.Names.{has_ended_one, ArePorts, OwnItems, OwnPrefix, is_among, is_forgotten, lost_after, loss_marked, marked_node, remembered, Nodes, HeldNode, Done, Running, State}
+use Rattle.hn_rules.proofs.Names.{IsRunAssigned, IsAssigning, ending, nothing, IsLeft, StillStays, NextDueStays, held_entry, own_entry, held_entries, nodes_of, IsReach, own_items, IsPublished}
+use Rattle.hn_rules.proofs.Names.{IsRefresh, IsRouter, IsSole, begun_at, at_moment, AreHeard, IsExpiry, forgetting, IsPortsTick, IsTick}
 use Rattle.hn_assign.specs.declared.held.Ran.{Ran as Assigned}
-use Rattle.hn_data.specs.declared.view.Entry.{Entry}
-use Rattle.hn_dncp.specs.Due.{IsPortStill, IsIdleAt}
-use Rattle.hn_dncp.specs.Laws.{PackingIsNotEmpty, StillPortIsIdle}
-use Rattle.hn_graph.specs.Path.{IsReachable}
-use Rattle.hn_own.specs.Laws.{NoneEnds}
-use Rattle.hn_own.specs.Own.{links_of}
-use Rattle.hn_own.specs.OwnPrefixes.{delegated_after, has_ended_one}
-use Rattle.hn_own.specs.Ports.{ArePorts}
-use Rattle.hn_own.specs.declared.own.OwnItems.{OwnItems}
-use Rattle.hn_own.specs.declared.own_prefixes.OwnPrefix.{OwnPrefix}
 use Rattle.hn_store.specs.Laws.{NoneIsForgotten}
-use Rattle.hn_store.specs.Loss.{is_among, is_forgotten, lost_after, loss_marked, marked_node, remembered}
-use Rattle.hn_store.specs.Nodes.{Nodes}
-use Rattle.hn_store.specs.declared.stored.HeldNode.{HeldNode}
-use Rattle.hn_rules.specs.declared.done.Done.{Done}
-use Rattle.hn_rules.specs.declared.running.Running.{Running}
-use Rattle.hn_rules.specs.declared.state.State.{State}
-use Rattle.hn_rules.specs.Assigning.{IsRunAssigned, IsAssigning}
-use Rattle.hn_rules.specs.Delegating.{ending}
-use Rattle.hn_rules.specs.Done.{nothing}
-use Rattle.hn_rules.specs.Idle.{IsIdleTick, IsLeft}
-use Rattle.hn_rules.specs.Laws.{StillIsIdle, IdleIsStill, SilentTickIsStill, IdleUntilDue, StillStays, NextDueStays}
-use Rattle.hn_rules.specs.Nodes.{held_entry, own_entry, held_entries, nodes_of, IsReach}
-use Rattle.hn_rules.specs.Refresh.{own_items, IsPublished, IsRefresh}
-use Rattle.hn_rules.specs.Router.{IsRouter}
-use Rattle.hn_base.specs.Words.{Begins}
-use Rattle.hn_rules.specs.Rules.{IsSole, begun_at}
-use Rattle.hn_rules.specs.Still.{at_moment, AreHeard, IsStill}
-use Rattle.hn_rules.specs.Tick.{IsExpiry, forgetting, IsPortsTick}
-use Rattle.hn_rules.specs.Ticks.{IsTick}
+use Rattle.hn_rules.specs.Idle.{IsIdleTick}
+use Rattle.hn_rules.specs.Laws.{StillIsIdle, IdleIsStill, SilentTickIsStill, IdleUntilDue}
+use Rattle.hn_rules.specs.Still.{IsStill}
 use Rattle.hn_rules.proofs.AssignRuns.{run_seen}
 use Rattle.hn_rules.proofs.Forgetting.{IsMarked, stays}
 use Rattle.hn_rules.proofs.RefreshChangesNothing.{marks_same, same_refresh}

@@ -1,15 +1,8 @@
 -- The parts of a tick, and the words that they take.
-use Rattle.std.proofs.Common.{◌≡◌, ℕ, Option, ap, refl}
-use Rattle.hn_base.specs.declared.ids.EpId.{EpId}
-use Rattle.hn_own.specs.Ports.{endpoints_of, port_at}
-use Rattle.hn_rules.specs.declared.running.Running.{Running}
-use Rattle.hn_rules.specs.Delegating.{ending}
-use Rattle.hn_rules.specs.Refresh.{IsRefresh}
-use Rattle.hn_base.specs.Rules.{Then}
-use Rattle.hn_rules.specs.Rules.{AtPort, Ran, words_of}
-use Rattle.hn_rules.specs.Tick.{IsPortExpiry, IsExpiry, forgetting, IsPortsTick}
-use Rattle.hn_rules.specs.Ticks.{IsLosing, IsSettling, IsTick}
-use Rattle.hn_base.proofs.RulesInTurn.{ran_plain, ran_both, ran_after, each_words, on_some_words}
+use Rattle.hn_base.proofs.Names.{◌≡◌, ℕ, Option, ap, refl, Then}
+use Rattle.hn_rules.proofs.Names.{EpId, endpoints_of, port_at, Running, ending, IsRefresh, AtPort, Ran, words_of, IsPortExpiry, IsExpiry, forgetting, IsPortsTick, IsLosing, IsSettling, IsTick}
+use Rattle.hn_rules.proofs.Names.{ran_plain, ran_both, each_words, on_some_words}
+use Rattle.hn_base.proofs.RulesInTurn.{ran_after}
 
 pub ran_losing : (told told_after : Option (ℕ → ℕ)) (before expired ended after : Running)
     → IsExpiry before expired → ended ≡ ending expired → Ran IsRefresh told told_after ended after → Ran IsLosing told told_after before after

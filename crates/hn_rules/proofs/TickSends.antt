@@ -1,27 +1,10 @@
 -- What a tick sends.
-use Rattle.std.proofs.Common.{◌≡◌, ◌∙◌, ◌<◌, ◌^◌, ℕ, lit≤, length-append, List, [], ◌∷◌, ◌++◌, length, map, None, Some, inl, inr, refl, sym, ap, subst, arith}
-use Rattle.std.specs.Prelude.{All, Contains}
-use Rattle.std.proofs.lemmas.List.{append-nil}
-use Rattle.std.proofs.lemmas.List.Elements.{All-nil, All-cons, All-head, All-tail, All-append, All-contains}
-use Rattle.hn_base.proofs.AscendingLists.{Contains-from_map}
-use Rattle.hn_base.specs.declared.ids.EpId.{EpId}
-use Rattle.hn_base.specs.declared.ids.NodeId.{NodeId}
-use Rattle.hn_tlv.specs.Grammar.{PlainTlv, IsTlv, IsTlvList, spelling}
-use Rattle.hn_typed.specs.Fields.{IsHash}
-use Rattle.hn_typed.specs.Item.{NodeEndpoint, NetworkState}
-use Rattle.hn_typed.specs.Laws.{WrittenIsRead}
-use Rattle.hn_typed.specs.Written.{tlv_of, IsWritable}
-use Rattle.hn_dncp.specs.Laws.{PackingIsRead}
-use Rattle.hn_dncp.specs.Packing.{IsPacking, AreRead, sender_tlv}
-use Rattle.hn_dncp.specs.declared.port.Port.{Port}
-use Rattle.hn_own.specs.Ports.{port_at, endpoints_of}
-use Rattle.hn_rules.specs.declared.done.Outgoing.{Outgoing}
-use Rattle.hn_rules.specs.declared.running.Running.{Running}
-use Rattle.hn_rules.specs.declared.state.State.{State}
-use Rattle.hn_rules.specs.Passing.{IsStatusUpdate}
-use Rattle.hn_rules.specs.Refresh.{IsPublishing, IsPortReset, IsHashing, IsRefresh}
-use Rattle.hn_rules.specs.Rules.{AtPort}
-use Rattle.hn_rules.specs.Tick.{IsPortExpiry, IsExpiry, IsStateSending, IsPortSending, IsPortTick}
+use Rattle.hn_base.proofs.Names.{◌≡◌, ◌∙◌, ◌<◌, ◌^◌, ℕ, lit≤, length-append, List, [], ◌∷◌, ◌++◌, length, map, None, Some, inl, inr, refl, sym, ap, subst, arith, All, append-nil, All-nil, All-cons}
+use Rattle.hn_base.proofs.Names.{All-head, All-tail, All-append, All-contains}
+use Rattle.hn_rules.proofs.Names.{Contains, Contains-from_map, EpId, NodeId, PlainTlv, IsTlv, IsTlvList, spelling, IsHash, NetworkState, WrittenIsRead, tlv_of, IsWritable, PackingIsRead, IsPacking}
+use Rattle.hn_rules.proofs.Names.{AreRead, sender_tlv, Port, port_at, endpoints_of, Outgoing, Running, State, IsStatusUpdate, IsPublishing, IsPortReset, IsHashing, IsRefresh, AtPort, IsPortExpiry}
+use Rattle.hn_rules.proofs.Names.{IsExpiry, IsStateSending, IsPortSending, IsPortTick}
+use Rattle.hn_typed.specs.Item.{NodeEndpoint}
 use Rattle.hn_rules.specs.Updates.{IsStatusSend, TicksSendUpdates}
 use Rattle.hn_rules.proofs.AnswerTlvs.{network_tlv}
 use Rattle.hn_rules.proofs.AtPorts.{found_id}

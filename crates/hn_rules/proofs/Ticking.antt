@@ -1,13 +1,6 @@
 -- A tick of an endpoint, and the words that it takes.
-use Rattle.std.proofs.Common.{◌≡◌, ◌∙◌, ℕ, false, List, ◌++◌, ◌⊎◌, Option, Some, length, IsTrue, ap, sym, subst, inl, inr}
-use Rattle.hn_base.specs.declared.ids.EpId.{EpId}
-use Rattle.hn_base.specs.Words.{Drew, Took}
-use Rattle.hn_dncp.specs.declared.port.Port.{Port}
-use Rattle.hn_dncp.specs.Tick.{ticked, tick_words, tick_sends}
-use Rattle.hn_rules.specs.declared.running.Running.{Running}
-use Rattle.hn_own.specs.Ports.{port_at}
-use Rattle.hn_rules.specs.Rules.{AtPort, Ran, with_words, with_port}
-use Rattle.hn_rules.specs.Tick.{IsPortMoving, IsPortSending, IsPortTick, IsStateSending}
+use Rattle.hn_base.proofs.Names.{◌≡◌, ◌∙◌, ℕ, false, List, ◌++◌, ◌⊎◌, Option, Some, length, IsTrue, ap, sym, subst, inl, inr, Drew, Took}
+use Rattle.hn_rules.proofs.Names.{EpId, Port, ticked, tick_words, tick_sends, Running, port_at, AtPort, Ran, with_words, with_port, IsPortMoving, IsPortSending, IsPortTick, IsStateSending}
 use Rattle.hn_rules.proofs.AtPorts.{at_port, found_id}
 
 -- Trickle of an endpoint moves on

@@ -1,43 +1,14 @@
 -- What touches nothing that a refresh makes.
-use Rattle.std.proofs.Common.{◌≡◌, ◌≢◌, ◌<◌, ◌+◌, ◌∙◌, ℕ, Bool, true, false, cond, List, [], ◌∷◌, ◌++◌, length, map, take, get_or, Option, Some, None, inr, refl, sym, ap, subst}
-use Rattle.std.specs.Prelude.{All, ◌==◌, ◌||◌}
-use Rattle.std.specs.Str.{bytes_eq}
-use Rattle.std.proofs.lemmas.Bool.{cond_both, and_parts, eqb-true, eq-eqb}
-use Rattle.std.proofs.lemmas.List.{take_more}
-use Rattle.std.proofs.lemmas.List.Elements.{All-head, All-tail, All-push}
-use Rattle.hn_base.specs.declared.ids.NodeId.{NodeId}
-use Rattle.hn_base.specs.declared.ids.EpId.{EpId}
-use Rattle.hn_typed.specs.Item.{PlainItem}
+use Rattle.hn_base.proofs.Names.{◌≡◌, ◌≢◌, ◌<◌, ◌+◌, ◌∙◌, ℕ, Bool, true, false, cond, List, [], ◌∷◌, ◌++◌, length, map, take, get_or, Option, Some, None, inr, refl, sym, ap, subst, All, ◌==◌, ◌||◌}
+use Rattle.hn_base.proofs.Names.{bytes_eq, cond_both, and_parts, eqb-true, eq-eqb, take_more, All-head, All-tail, All-push, OnSome}
+use Rattle.hn_rules.proofs.Names.{NodeId, EpId, PlainItem, PeerLink, Neighbour, Port, Greet, Known, Added, Full, Unknown, is_peer, has_peer, greeting, may_ask, asked, contacted, hashed}
+use Rattle.hn_rules.proofs.Names.{asks_for_state, Running, Origin, with_answer, ArePorts, is_port, port_at, put_port, link_at, links_at, AtPort, with_port, greeting_port, named, network_state}
+use Rattle.hn_rules.proofs.Names.{TakesState, IsTaken, State, Nodes, PlainState, entries_after, Took, request_node, IsNetworkRequest, IsExpired, Without, IsPortExpiry, IsUntouched}
 use Rattle.hn_typed.specs.Item as item
-use Rattle.hn_data.specs.declared.said.PeerLink.{PeerLink}
-use Rattle.hn_dncp.specs.declared.peers.Neighbour.{Neighbour}
-use Rattle.hn_dncp.specs.declared.port.Port.{Port}
-use Rattle.hn_dncp.specs.declared.greet.Greet.{Greet}
-use Rattle.hn_dncp.specs.declared.greet.Greet.TheVariants.{Known, Added, Full, Unknown}
-use Rattle.hn_dncp.specs.Peers.{is_peer, has_peer}
-use Rattle.hn_dncp.specs.Greet.{greeting}
-use Rattle.hn_dncp.specs.Ask.{may_ask, asked}
-use Rattle.hn_dncp.specs.Hash.{contacted, hashed, asks_for_state}
-use Rattle.hn_rules.specs.declared.running.Running.{Running}
-use Rattle.hn_rules.specs.declared.running.Origin.{Origin}
 use Rattle.hn_rules.specs.declared.answers.Subject.TheVariants as subject
-use Rattle.hn_rules.specs.Answers.{with_answer}
-use Rattle.hn_own.specs.Ports.{ArePorts, is_port, port_at, put_port}
-use Rattle.hn_own.specs.Own.{link_at, links_at}
-use Rattle.hn_base.specs.Rules.{OnSome}
-use Rattle.hn_rules.specs.Rules.{AtPort, with_port}
-use Rattle.hn_rules.specs.NodeEndpoint.{greeting_port, named}
 use Rattle.hn_rules.specs.NodeEndpoint as rule
-use Rattle.hn_rules.specs.NetworkState.{network_state}
-use Rattle.hn_rules.specs.NodeState.{touches, TakesState, IsTaken}
-use Rattle.hn_rules.specs.declared.state.State.{State}
-use Rattle.hn_store.specs.Nodes.{Nodes}
-use Rattle.hn_store.specs.Acceptance.{PlainState, entries_after}
-use Rattle.hn_store.specs.declared.state.Took.{Took}
+use Rattle.hn_rules.specs.NodeState.{touches}
 use Rattle.hn_store.specs.declared.state.Took.TheVariants as took
-use Rattle.hn_rules.specs.Requests.{request_node, IsNetworkRequest}
-use Rattle.hn_rules.specs.Tick.{IsExpired, Without, IsPortExpiry}
-use Rattle.hn_rules.specs.Router.{IsUntouched}
 use Rattle.hn_rules.proofs.Refreshes.{Kept, only_one, kept_self, kept_port, keeps_kept_at, untouched_self, untouched_same}
 use Rattle.hn_rules.proofs.Walk.{network_request, node_request}
 

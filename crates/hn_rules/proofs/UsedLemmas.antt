@@ -1,37 +1,12 @@
 -- What a router used and wanted where a tick assigned prefixes, by what it uses and wants afterwards.
-use Rattle.std.proofs.Common.{◌≡◌, ◌≢◌, ◌∙◌, ◌↔◌, ◌⊎◌, ◌-◌, ◌*◌, ◌^◌, ◌<◌, ◌≤◌, ℕ, List, map, Bool, true, false, cond, nat_le, Option, Some, None, Contains, inl, inr, refl, sym, ap, subst, arith}
-use Rattle.std.specs.List.{slice_get}
-use Rattle.std.proofs.lemmas.Bool.{cases_lt, leb-false, ne_eqb}
-use Rattle.hn_base.proofs.AscendingLists.{Contains-map, Contains-from_map}
-use Rattle.hn_base.proofs.Elements.{any_from}
-use Rattle.hn_base.proofs.PartsAtPlaces.{contains_at, part_at, part_stands}
-use Rattle.hn_base.specs.Prefix.{PlainPrefix}
-use Rattle.hn_base.specs.declared.ids.NodeId.{NodeId}
-use Rattle.hn_data.specs.View.{PlainView}
-use Rattle.hn_deleg.specs.Candidates.{IsPreferred, SameCandidatesSameUsed, PreferredIsAnnounced, PreferredWasSo}
-use Rattle.hn_deleg.specs.Live.{remaining, IsAnnouncedPrefix}
-use Rattle.hn_deleg.specs.Used.{AreUsable, IsUnwanted, prefixes_of}
-use Rattle.hn_deleg.specs.declared.delegated.Delegated.{Delegated}
-use Rattle.hn_own.specs.Lifetimes.{has_ended, seconds_left}
-use Rattle.hn_own.specs.Own.{links_of, PlainData}
-use Rattle.hn_own.specs.OwnPrefixes.{has_ended_one}
-use Rattle.hn_own.specs.Ports.{ArePorts, endpoints_of}
-use Rattle.hn_own.specs.declared.own.OwnItems.{OwnItems}
-use Rattle.hn_own.specs.declared.own_prefixes.OwnPrefix.{OwnPrefix}
-use Rattle.hn_store.specs.Loss.{marked_node}
-use Rattle.hn_store.specs.declared.stored.HeldNode.{HeldNode}
-use Rattle.hn_rules.specs.declared.running.Running.{Running}
-use Rattle.hn_rules.specs.declared.state.State.{State}
-use Rattle.hn_rules.specs.Laws.{KeepsRouter, RouterStaysLater, RefreshMakesRouter, AssigningKeeps}
-use Rattle.hn_rules.specs.Nodes.{held_entry}
-use Rattle.hn_rules.specs.Refresh.{own_items, network_state_hash, IsPortReset, IsPublishing, IsHashing, IsRefresh}
+use Rattle.hn_base.proofs.Names.{◌≡◌, ◌≢◌, ◌∙◌, ◌↔◌, ◌⊎◌, ◌-◌, ◌*◌, ◌^◌, ◌<◌, ◌≤◌, ℕ, List, map, Bool, true, false, cond, Option, Some, None, Contains, inl, inr, refl, sym, ap, subst, arith, cases_lt}
+use Rattle.hn_base.proofs.Names.{leb-false, ne_eqb, PlainPrefix}
+use Rattle.hn_rules.proofs.Names.{nat_le, slice_get, Contains-map, Contains-from_map, any_from, contains_at, part_at, part_stands, NodeId, PlainView, IsPreferred, remaining, IsAnnouncedPrefix}
+use Rattle.hn_rules.proofs.Names.{AreUsable, IsUnwanted, prefixes_of, Delegated, has_ended, seconds_left, links_of, PlainData, has_ended_one, ArePorts, endpoints_of, OwnItems, OwnPrefix, marked_node}
+use Rattle.hn_rules.proofs.Names.{HeldNode, Running, State, KeepsRouter, RouterStaysLater, RefreshMakesRouter, AssigningKeeps, held_entry, own_items, network_state_hash, IsPortReset, IsPublishing}
+use Rattle.hn_rules.proofs.Names.{IsHashing, IsRefresh, IsUntouched, IsFresh, IsRouter, AtPort, seen_by, at_moment, IsUneventful, forgetting, IsPortTick, IsPortsTick, IsTick}
+use Rattle.hn_deleg.specs.Candidates.{SameCandidatesSameUsed, PreferredIsAnnounced, PreferredWasSo}
 use Rattle.hn_rules.specs.Rested.{UsedWhereAssigned}
-use Rattle.hn_rules.specs.Router.{IsUntouched, IsFresh, IsRouter}
-use Rattle.hn_rules.specs.Rules.{AtPort}
-use Rattle.hn_rules.specs.Seen.{seen_by}
-use Rattle.hn_rules.specs.Still.{at_moment, IsUneventful}
-use Rattle.hn_rules.specs.Tick.{forgetting, IsPortTick, IsPortsTick}
-use Rattle.hn_rules.specs.Ticks.{IsTick}
 use Rattle.hn_rules.proofs.Announcing.{AnnouncingLaws, AreTwins, Lives, candidate_too, preferred_too}
 use Rattle.hn_rules.proofs.NothingKeptIsDue.{CalmLaws, start, forgot, nothing_lost, fresh_forgot, same_view}
 use Rattle.hn_rules.proofs.SeenWhileTimePasses.{view_later}

@@ -1,54 +1,25 @@
 -- The one walk over the rules: what each elementary change keeps, each rule keeps.
-use Rattle.std.proofs.Common.{◌≡◌, ◌<◌, ◌+◌, ◌%◌, ◌^◌, ℕ, Bool, true, false, cond, List, [], ◌∷◌, map, Option, Some, None, inl, inr, refl, sym, subst, arith}
-use Rattle.std.specs.Prelude.{All, Contains, is_some, find, nat_eq, ◌==◌}
-use Rattle.std.specs.Option.{option_eq}
-use Rattle.std.specs.Str.{bytes_eq}
-use Rattle.std.proofs.lemmas.Bool.{cond_both, eqb-false, eq-eqb}
-use Rattle.std.proofs.lemmas.List.Elements.{All-nil}
-use Rattle.hn_base.specs.declared.caps.Caps.{Caps}
-use Rattle.hn_base.specs.declared.ids.NodeId.{NodeId}
-use Rattle.hn_base.specs.declared.ids.EpId.{EpId}
-use Rattle.hn_base.specs.Prefix.{PlainPrefix}
-use Rattle.hn_base.specs.Rules.{Then, Each}
-use Rattle.hn_tlv.specs.Grammar.{PlainTlv}
-use Rattle.hn_typed.specs.Item.{PlainItem}
+use Rattle.hn_base.proofs.Names.{◌≡◌, ◌<◌, ◌+◌, ◌%◌, ◌^◌, ℕ, Bool, true, false, cond, List, [], ◌∷◌, map, Option, Some, None, inl, inr, refl, sym, subst, arith, All, find, nat_eq, ◌==◌, option_eq}
+use Rattle.hn_base.proofs.Names.{bytes_eq, cond_both, eqb-false, eq-eqb, All-nil, PlainPrefix, Then, Each}
+use Rattle.hn_rules.proofs.Names.{Contains, is_some, Caps, NodeId, EpId, PlainTlv, PlainItem, Port, Greet, Known, Added, Full, Unknown, may_ask, asked, greeting, hashed, asks_for_state, Took}
+use Rattle.hn_rules.proofs.Names.{PlainState, is_port, port_at, put_port, endpoints_of, OwnAddress, may_address, IsRangedAddress, Running, Origin, Subject, with_answer, Rule, AtPort, noted, with_port}
+use Rattle.hn_rules.proofs.Names.{Publishes, next_number, IsPublishing, IsReaching, IsPortReset, IsHashing, IsRefresh, greeting_port, with_some_answer, state_item, with_state, is_reached}
+use Rattle.hn_rules.proofs.Names.{request_node, IsNetworkRequest, network_state, IsFirstClaim, IsSecondClaim, IsClaim, took_noted, IsTaken, IsNodeState, IsItemRule, IsTlvRule, IsTlvs, IsAnswering}
+use Rattle.hn_rules.proofs.Names.{IsArrival, IsPrivateLength, withdrawing, ending, IsAssigning, IsPortExpiry, IsExpiry, forgetting, IsPortMoving, IsPortSending, IsPortTick, IsPortsTick, setting_caps}
+use Rattle.hn_rules.proofs.Names.{setting_private, IsPortRestart, emptied, IsRestarting, IsSaid, Reset, Meet, Ask, Hear, Expire, Move, Begin, Accept, Mark, Forget, Empty, Delegate, Withdraw, End}
+use Rattle.hn_rules.proofs.Names.{IsAnswerAbout, Change, ChangePort, ChangeTable, ChangePrefixes, PutReach, PutHash, PutPairs, ForgetPairs, PutPrivate, PutAddresses, PutId, PutClaimed, PutCaps}
+use Rattle.hn_rules.proofs.Names.{Publish, AddAnswer, AddSends, ForgetAnswers, TakeNote, TakeWords, change, Leads, EachKeeps}
 use Rattle.hn_typed.specs.Item as item
-use Rattle.hn_dncp.specs.declared.port.Port.{Port}
-use Rattle.hn_dncp.specs.declared.greet.Greet.{Greet}
-use Rattle.hn_dncp.specs.declared.greet.Greet.TheVariants.{Known, Added, Full, Unknown}
-use Rattle.hn_dncp.specs.Ask.{may_ask, asked}
-use Rattle.hn_dncp.specs.Greet.{greeting}
-use Rattle.hn_dncp.specs.Hash.{hashed, asks_for_state}
-use Rattle.hn_store.specs.declared.state.Took.{Took}
 use Rattle.hn_store.specs.declared.state.Took.TheVariants as took
-use Rattle.hn_store.specs.Acceptance.{PlainState}
-use Rattle.hn_own.specs.Ports.{is_port, port_at, put_port, endpoints_of}
-use Rattle.hn_own.specs.Addresses.{OwnAddress, may_address}
 use Rattle.hn_own.specs.OwnPrefixes.{may_delegate}
-use Rattle.hn_own.specs.Ranges.{IsRangedAddress}
-use Rattle.hn_rules.specs.declared.running.Running.{Running}
-use Rattle.hn_rules.specs.declared.running.Origin.{Origin}
 use Rattle.hn_rules.specs.declared.done.Note.TheVariants as note
-use Rattle.hn_rules.specs.declared.answers.Subject.{Subject}
 use Rattle.hn_rules.specs.declared.answers.Subject.TheVariants as subject
-use Rattle.hn_rules.specs.Answers.{with_answer}
-use Rattle.hn_rules.specs.Rules.{Rule, AtPort, noted, with_port}
-use Rattle.hn_rules.specs.Refresh.{Publishes, next_number, IsPublishing, IsReaching, IsPortReset, IsHashing, IsRefresh}
-use Rattle.hn_rules.specs.NodeEndpoint.{greeting_port}
 use Rattle.hn_rules.specs.NodeEndpoint as rule
-use Rattle.hn_rules.specs.Requests.{with_some_answer, state_item, with_state, is_reached, request_node, IsNetworkRequest}
-use Rattle.hn_rules.specs.NetworkState.{network_state}
-use Rattle.hn_rules.specs.Claim.{IsFirstClaim, IsSecondClaim, IsClaim}
-use Rattle.hn_rules.specs.NodeState.{took_noted, IsTaken, IsNodeState}
-use Rattle.hn_rules.specs.Arrival.{IsItemRule, IsTlvRule, IsTlvs, IsAnswering, IsArrival}
-use Rattle.hn_rules.specs.Given.{IsRangedDelegation, IsPrivateLength}
-use Rattle.hn_rules.specs.Delegating.{delegating, withdrawing, ending}
-use Rattle.hn_rules.specs.Assigning.{IsAssigning}
-use Rattle.hn_rules.specs.Tick.{IsPortExpiry, IsExpiry, forgetting, IsPortMoving, IsPortSending, IsPortTick, IsPortsTick}
-use Rattle.hn_rules.specs.Events.{setting_caps, setting_private, setting_addresses, IsPortRestart, emptied, IsRestarting}
-use Rattle.hn_rules.specs.Changes.{IsSaid, Reset, Meet, Ask, Hear, Expire, Move, Begin, IsSender, Accept, Mark, Forget, Empty, Delegate, Withdraw, End, IsPublishable, IsAnswerAbout, Change}
-use Rattle.hn_rules.specs.Changes.{ChangePort, ChangeTable, ChangePrefixes, PutReach, PutHash, PutPairs, ForgetPairs, PutPrivate, PutAddresses, PutId, PutClaimed, PutCaps, Publish, NameSender}
-use Rattle.hn_rules.specs.Changes.{AddAnswer, AddSends, ForgetAnswers, TakeNote, TakeWords, change, Leads, EachKeeps}
+use Rattle.hn_rules.specs.Given.{IsRangedDelegation}
+use Rattle.hn_rules.specs.Delegating.{delegating}
+use Rattle.hn_rules.specs.Events.{setting_addresses}
+use Rattle.hn_rules.specs.Changes.{IsSender, IsPublishable}
+use Rattle.hn_rules.specs.Changes.{NameSender}
 use Rattle.hn_rules.proofs.AtPorts.{found_id}
 use Rattle.hn_rules.proofs.Leads.{Keeps, keeps_plain, keeps_both, keeps_each, keeps_each_of, keeps_option, leads_keep}
 

@@ -1,35 +1,11 @@
 -- What holds of a router beside what a refresh makes, each change keeps.
-use Rattle.std.proofs.Common.{◌<◌, ◌≡◌, ◌^◌, false, List, [], Option, Some, None, not, length, refl, sym, subst, arith}
-use Rattle.std.specs.Prelude.{All, is_some, ◌==◌}
-use Rattle.std.specs.Str.{bytes_eq}
-use Rattle.std.proofs.lemmas.Bool.{or_parts}
-use Rattle.std.proofs.lemmas.List.Elements.{All-nil, All-filter}
-use Rattle.hn_base.specs.declared.ids.EpId.{EpId}
-use Rattle.hn_tlv.specs.Grammar.{PlainTlv}
-use Rattle.hn_dncp.specs.Port.{attached_port}
-use Rattle.hn_dncp.specs.declared.port.Port.{Port}
-use Rattle.hn_store.specs.Nodes.{held}
-use Rattle.hn_store.specs.declared.stored.Stored.{Stored}
-use Rattle.hn_assign.specs.declared.assigned.Assigned.{Assigned}
-use Rattle.hn_assign.specs.Facts.{IsAssignedPast}
-use Rattle.hn_assign.specs.Laws.{SubroutineKeepsLengths, SubroutineKeepsPrefixes, SubroutineKeepsSoon}
-use Rattle.hn_own.specs.declared.own.OwnItems.{OwnItems}
-use Rattle.hn_own.specs.Laws.{AddingKeepsOwnPrefixes, LeavingKeepsOwnPrefixes, HeldStays, AddressesStay, AddressesMayBe}
-use Rattle.hn_own.specs.Lifetimes.{has_ended}
-use Rattle.hn_own.specs.OwnPrefixes.{AreOwnPrefixes, is_prefix, own_prefix}
-use Rattle.hn_own.specs.Own.{PlainData}
-use Rattle.hn_own.specs.Ports.{ArePorts, is_port}
-use Rattle.hn_own.specs.declared.own_prefixes.OwnPrefix.{OwnPrefix}
-use Rattle.hn_rules.specs.declared.running.Running.{Running}
-use Rattle.hn_rules.specs.declared.state.State.{State}
-use Rattle.hn_rules.specs.Nodes.{own_leaf}
-use Rattle.hn_rules.specs.Refresh.{own_items}
-use Rattle.hn_rules.specs.Events.{IsAttaching, detaching}
-use Rattle.hn_rules.specs.Tick.{IsExpired}
-use Rattle.hn_rules.specs.Changes.{PortChange, Reset, Meet, Ask, Hear, Expire, Move, Begin, port_after, MayChangePort, TableChange, Accept, Mark, Forget, Empty, table_after, MayChangeTable}
-use Rattle.hn_rules.specs.Changes.{PrefixChange, Delegate, Withdraw, End, prefixes_after, MayChangePrefixes, ChangePort, ChangeTable, ChangePrefixes, PutReach, PutHash, PutPairs, ForgetPairs}
-use Rattle.hn_rules.specs.Changes.{PutPrivate, PutAddresses, PutId, PutClaimed, PutCaps, Publish, change, EachKeeps}
-use Rattle.hn_rules.specs.Laws.{ChangesKeepWell}
+use Rattle.hn_base.proofs.Names.{◌<◌, ◌≡◌, ◌^◌, false, List, [], Option, Some, None, not, length, refl, sym, subst, arith, All, ◌==◌, bytes_eq, or_parts, All-nil, All-filter}
+use Rattle.hn_rules.proofs.Names.{is_some, EpId, PlainTlv, attached_port, Port, held, Stored, Assigned, IsAssignedPast, SubroutineKeepsLengths, SubroutineKeepsPrefixes, SubroutineKeepsSoon, OwnItems}
+use Rattle.hn_rules.proofs.Names.{AddressesStay, AddressesMayBe, has_ended, AreOwnPrefixes, is_prefix, own_prefix, PlainData, ArePorts, is_port, OwnPrefix, Running, State, own_leaf, own_items}
+use Rattle.hn_rules.proofs.Names.{IsAttaching, detaching, IsExpired, PortChange, Reset, Meet, Ask, Hear, Expire, Move, Begin, port_after, MayChangePort, TableChange, Accept, Mark, Forget, Empty}
+use Rattle.hn_rules.proofs.Names.{table_after, MayChangeTable, PrefixChange, Delegate, Withdraw, End, prefixes_after, MayChangePrefixes, ChangePort, ChangeTable, ChangePrefixes, PutReach, PutHash}
+use Rattle.hn_rules.proofs.Names.{PutPairs, ForgetPairs, PutPrivate, PutAddresses, PutId, PutClaimed, PutCaps, Publish, change, EachKeeps, ChangesKeepWell}
+use Rattle.hn_own.specs.Laws.{AddingKeepsOwnPrefixes, LeavingKeepsOwnPrefixes, HeldStays}
 use Rattle.hn_rules.proofs.Finding.{find_all}
 use Rattle.hn_rules.proofs.LawsFromBelow.{KnownLaws}
 use Rattle.hn_rules.proofs.LawAssigned.{AssignLaws, held-assigned}

@@ -1,32 +1,12 @@
 -- The wishes of a router, as they are added one after another.
-use Rattle.std.proofs.Common.{◌≡◌, ◌∙◌, ◌<◌, ◌≤◌, ◌+◌, ◌↔◌, ◌⊎◌, ℕ, Bool, true, false, List, [], ◌∷◌, ◌++◌, length, take, get_or, Contains, Option, Some, Decides, sym, ap, subst, inl, inr, refl}
-use Rattle.std.proofs.Common.{⊎_elim, arith}
-use Rattle.std.specs.List.{slice_get}
-use Rattle.std.specs.List.Sorted.{IsStrictlySortedBy}
-use Rattle.std.specs.Option.{option_map}
-use Rattle.std.specs.declared.cmp.Ordering.TheVariants.{Less}
-use Rattle.std.proofs.lemmas.Bool.{cases_lt}
+use Rattle.hn_base.proofs.Names.{◌≡◌, ◌∙◌, ◌<◌, ◌≤◌, ◌+◌, ◌↔◌, ◌⊎◌, ℕ, Bool, true, false, List, [], ◌∷◌, ◌++◌, length, take, get_or, Contains, Option, Some, Decides, sym, ap, subst, inl, inr, refl}
+use Rattle.hn_base.proofs.Names.{⊎_elim, arith, IsStrictlySortedBy, option_map, Less, cases_lt, length-map, map-append, get_or-map, take_more, All, All-push, Contains-append_left}
+use Rattle.hn_base.proofs.Names.{Contains-append_right, Contains-append_cases, Less-from_sorted, slice_get_within, slice_get-map, get_or_from_slice_get, PlainPrefix, prefix_cmp}
+use Rattle.hn_rules.proofs.Names.{slice_get, Contains-head, Contains-cases, nothing_in, EpId, PlainView, Delegated, IsUnwanted, prefixes_of, CommonLinkIsUnique, Wish, Pair, IsWished, wish_pair}
+use Rattle.hn_rules.proofs.Names.{length_at, Post, IsWishAt, HasCommonLink, endpoints_at}
 use Rattle.std.proofs.lemmas.Bool.Decides.{same_from_decides}
-use Rattle.std.proofs.lemmas.List.{length-map, map-append, get_or-map, take_more}
-use Rattle.std.specs.Prelude.{All}
-use Rattle.std.proofs.lemmas.List.Elements.{All-push, Contains-append_left, Contains-append_right, Contains-append_cases}
-use Rattle.std.proofs.lemmas.Map.Keys.{Less-from_sorted}
-use Rattle.std.proofs.lemmas.Option.{slice_get_within, slice_get-map, get_or_from_slice_get}
-use Rattle.hn_base.proofs.AscendingLists.{Contains-head, Contains-cases, nothing_in, not_below_itself}
-use Rattle.hn_base.specs.declared.ids.EpId.{EpId}
-use Rattle.hn_base.specs.Prefix.{PlainPrefix, prefix_cmp}
-use Rattle.hn_data.specs.View.{PlainView}
-use Rattle.hn_deleg.specs.declared.delegated.Delegated.{Delegated}
-use Rattle.hn_deleg.specs.Used.{IsUnwanted, prefixes_of}
+use Rattle.hn_base.proofs.AscendingLists.{not_below_itself}
 use Rattle.hn_link.specs.CommonLink.{IsCommonLink}
-use Rattle.hn_link.specs.Laws.{CommonLinkIsUnique}
-use Rattle.hn_assign.specs.declared.assigned.Wish.{Wish}
-use Rattle.hn_assign.specs.declared.pair.Pair.{Pair}
-use Rattle.hn_assign.specs.Pair.{IsWished, wish_pair}
-use Rattle.hn_own.specs.Posts.{length_at}
-use Rattle.hn_rules.specs.declared.assigning.Post.{Post}
-use Rattle.hn_rules.specs.Assigning.{IsWishAt}
-use Rattle.hn_rules.specs.Posts.{HasCommonLink, endpoints_at}
 use Rattle.hn_base.proofs.Prefixes.{prefix_total}
 
 -- ---- the endpoints with their Common Links

@@ -1,14 +1,7 @@
 -- A list without its expired elements, and a rule for each element, as far as a loop has come.
-use Rattle.std.proofs.Common.{◌≡◌, ◌<◌, ◌≤◌, ◌+◌, ◌∙◌, ℕ, suc, List, [], ◌∷◌, ◌++◌, length, take, drop, get_or, Option, Some, None, ap, refl, sym, subst, inl, inr, arith, append_assoc, add-one}
-use Rattle.std.specs.Prelude.{remove}
-use Rattle.std.specs.List.{filter_map}
-use Rattle.std.proofs.lemmas.List.{take_more, drop_more, drop_all, take_all, append-nil, take_at, drop_at, length-take-le}
-use Rattle.hn_base.specs.declared.ids.EpId.{EpId}
-use Rattle.hn_typed.specs.Item.{PlainItem}
-use Rattle.hn_data.specs.Said.{interval_of, keep_alive_of}
-use Rattle.hn_data.specs.Laws.{ItemsAreUnique}
-use Rattle.hn_store.specs.declared.stored.Stored.{Stored}
-use Rattle.hn_rules.specs.Tick.{HasInterval, Without}
+use Rattle.hn_base.proofs.Names.{◌≡◌, ◌<◌, ◌≤◌, ◌+◌, ◌∙◌, ℕ, suc, List, [], ◌∷◌, ◌++◌, length, take, drop, get_or, Option, Some, None, ap, refl, sym, subst, inl, inr, arith, append_assoc, add-one}
+use Rattle.hn_base.proofs.Names.{remove, filter_map, take_more, drop_more, drop_all, take_all, append-nil, take_at, drop_at, length-take-le}
+use Rattle.hn_rules.proofs.Names.{EpId, PlainItem, interval_of, keep_alive_of, ItemsAreUnique, Stored, HasInterval, Without}
 
 -- a peer has one keep-alive interval
 pub interval-unique : ItemsAreUnique → (held : Option Stored) (endpoint : EpId) (a b : ℕ) → HasInterval held endpoint a → HasInterval held endpoint b → a ≡ b

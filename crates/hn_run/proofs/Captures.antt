@@ -1,18 +1,14 @@
 -- The reading of a capture, line by line.
-use Rattle.std.proofs.Common.{◌≡◌, ◌∙◌, ◌+◌, ◌<◌, ◌≤◌, ◌^◌, ℕ, List, [], ◌∷◌, ◌++◌, length, refl, sym, ap, subst, inl, inr, arith, append_assoc, length-append}
-use Rattle.std.specs.List.{AllZip}
-use Rattle.std.proofs.lemmas.List.{append-nil}
+use Rattle.hn_base.proofs.Names.{◌≡◌, ◌∙◌, ◌+◌, ◌<◌, ◌≤◌, ◌^◌, ℕ, List, [], ◌∷◌, ◌++◌, length, refl, sym, ap, subst, inl, inr, arith, append_assoc, length-append, AllZip, append-nil}
+use Rattle.hn_run.proofs.Names.{ScriptFault, HasTlvs, fed_of, watch_text, IsCapture, refused_line}
 use Rattle.std.proofs.lemmas.List.Elements.{AllZip-push, length_all_zip}
 use Rattle.hn_script.specs.Texts.{lines_of}
-use Rattle.hn_script.specs.declared.fault.ScriptFault.{ScriptFault}
-use Rattle.hn_tlv.specs.Grammar.{HasTlvs}
 use Rattle.hn_watch.specs.declared.shown.Shown.{Shown}
 use Rattle.hn_watch.specs.declared.watch.Watch.{Watch}
 use Rattle.hn_watch.specs.Shown.{AreShownIn}
-use Rattle.hn_watch.specs.Watch.{fed_of, malformed_of, Holds}
+use Rattle.hn_watch.specs.Watch.{malformed_of, Holds}
 use Rattle.hn_watch.specs.Laws.{ListsShow, HeldAfterMalformed}
-use Rattle.hn_run.specs.Watch.{IsCaptureLine, CaptureFault, CaptureFaultFrom, AreFed, watch_text, IsCapture, IsWatched, IsRefusedCapture}
-use Rattle.hn_lab.specs.Reports.{refused_line}
+use Rattle.hn_run.specs.Watch.{IsCaptureLine, CaptureFault, CaptureFaultFrom, AreFed, IsWatched, IsRefusedCapture}
 use Rattle.hn_run.specs.Capture.{IsLineFed, HasFed, IsRead, IsTextOf}
 
 -- ---- one more datagram

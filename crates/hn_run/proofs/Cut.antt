@@ -1,14 +1,11 @@
 -- What was written of a datagram's text before it was cut.
-use Rattle.std.proofs.Common.{◌≡◌, ◌∙◌, ◌<◌, arith, Result, Ok, Err, ℕ, List, [], ◌∷◌, ◌++◌, Option, length, ap, sym, refl, subst, append_assoc, lit<, zero, suc, ◌⊎◌, ⊎_elim, inl, inr, OnOk}
-use Rattle.std.specs.Prelude.{IfErr, Contains}
-use Rattle.std.specs.Io.KnownBytes.{Appends}
-use Rattle.hn_io.specs.declared.fault.IoFault.{IoFault}
-use Rattle.hn_io.specs.declared.fault.IoFault.TheVariants.{Failed, NoMemory}
+use Rattle.hn_base.proofs.Names.{◌≡◌, ◌∙◌, ◌<◌, arith, Result, Ok, Err, ℕ, List, [], ◌∷◌, ◌++◌, Option, length, ap, sym, refl, subst, append_assoc, lit<, zero, suc, ◌⊎◌, ⊎_elim, inl, inr, IfErr}
+use Rattle.hn_base.proofs.Names.{Appends}
+use Rattle.hn_run.proofs.Names.{Contains, IoFault, Failed, NoMemory, tlvs_line, IsTextTo, PiecesAppend, AppendsCut, written_status}
+use Rattle.std.proofs.Common.{OnOk}
 use Rattle.hn_tlv.specs.Grammar.{PlainTlv, IsTlvList}
-use Rattle.hn_decode.specs.Nested.{tlvs_line, IsTextTo, IsDecodeText}
+use Rattle.hn_decode.specs.Nested.{IsDecodeText}
 use Rattle.hn_decode.specs.Laws.{LinesGoOn}
-use Rattle.hn_lab.specs.Laws.{PiecesAppend}
-use Rattle.hn_run.specs.Decode.{AppendsCut, written_status}
 use Rattle.hn_run.proofs.Streams.{AppendsCut-more, Appends-none}
 
 -- the bytes are a list of so many TLVs

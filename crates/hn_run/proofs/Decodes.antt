@@ -1,16 +1,11 @@
 -- Each source has a text that `decode` writes of it.
-use Rattle.std.proofs.Common.{◌≡◌, ◌^◌, ◌≤◌, inl, inr, ℕ, List, Result, Ok, Err, All, length, refl}
-use Rattle.std.proofs.lemmas.Bool.{cases_lt}
-use Rattle.std.proofs.lemmas.List.{get_or_default}
-use Rattle.hn_base.specs.Byte.{IsByte}
+use Rattle.hn_base.proofs.Names.{◌≡◌, ◌^◌, ◌≤◌, inl, inr, ℕ, List, Result, Ok, Err, length, refl, cases_lt, get_or_default, IsByte}
+use Rattle.hn_run.proofs.Names.{decode_of, FromHexError, refused_line, unblanked, malformed_line, IsDecodeOf}
+use Rattle.std.proofs.Common.{All}
 use Rattle.hn_tlv.specs.Laws.{ListOrFirstFault}
 use Rattle.hn_decode.specs.Laws.{DecodeTextExists}
-use Rattle.hex.specs.Hex.{decode_of}
-use Rattle.hex.specs.declared.error.FromHexError.{FromHexError}
 use Rattle.hex.proofs.HexLemmas.{decode_of-ok}
-use Rattle.hn_lab.specs.Reports.{refused_line}
-use Rattle.hn_run.specs.HexText.{unblanked}
-use Rattle.hn_run.specs.Decode.{malformed_line, IsContentsOf, IsDecodeOf}
+use Rattle.hn_run.specs.Decode.{IsContentsOf}
 
 -- the laws of lists and of texts
 module _ (list_or_fault : ListOrFirstFault) (text_exists : DecodeTextExists) where

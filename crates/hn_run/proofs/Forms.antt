@@ -1,15 +1,11 @@
 -- The words of the command line ask for one form.
-use Rattle.std.proofs.Common.{◌≡◌, ◌≢◌, ◌⊎◌, inl, inr, ℕ, ◌-◌, ◌^◌, ◌<◌, ◌≤◌, List, [], ◌∷◌, length, get_or, drop, take, zero, suc, map, codes, refl, Bool, true, false, not, nat_eq, Option, None}
-use Rattle.std.proofs.Common.{Some, sym, ap, subst, ◌∙◌, lit<, arith}
-use Rattle.std.specs.Prelude.{Contains, IfNone}
-use Rattle.std.specs.Cmp.Lexicographic.{pointwise, same_text}
-use Rattle.std.proofs.lemmas.Bool.{false≢true}
-use Rattle.std.proofs.lemmas.List.{get_or-map}
-use Rattle.hn_script.specs.Field.{IsNumberText}
-use Rattle.hn_run.specs.Form.{IsPlainWord, IsBasedWord, AreCountedWords, IsFormOf, statuses_of}
+use Rattle.hn_base.proofs.Names.{◌≡◌, ◌≢◌, ◌⊎◌, inl, inr, ℕ, ◌-◌, ◌^◌, ◌<◌, ◌≤◌, List, [], ◌∷◌, length, get_or, drop, take, zero, suc, map, codes, refl, Bool, true, false, not, Option, None, Some}
+use Rattle.hn_base.proofs.Names.{sym, ap, subst, ◌∙◌, lit<, arith, IfNone, pointwise, false≢true, get_or-map}
+use Rattle.hn_run.proofs.Names.{Contains, IsNumberText, IsFormOf, NodeCall, Lab, Udp, Node, Decode, Watch, Soak}
+use Rattle.std.proofs.Common.{nat_eq}
+use Rattle.std.specs.Cmp.Lexicographic.{same_text}
+use Rattle.hn_run.specs.Form.{IsPlainWord, IsBasedWord, AreCountedWords, statuses_of}
 use Rattle.hn_run.specs.declared.words.Form.{Form}
-use Rattle.hn_run.specs.declared.words.NodeCall.{NodeCall}
-use Rattle.hn_run.specs.declared.words.Form.TheVariants.{Lab, Udp, Node, Decode, Watch, Soak}
 
 -- the text of the word at a place
 pub word_at : {A : Type 0} (text : A → List ℕ) (words : List A) (i : ℕ) (word : A) (found : List ℕ) → i < length words → word ≡ get_or words i word

@@ -1,16 +1,13 @@
 -- Hexadecimal digits, read one after another.
-use Rattle.std.proofs.Common.{◌≡◌, ◌∙◌, ◌<◌, ◌+◌, ◌*◌, ◌%◌, ◌≤◌, ℕ, true, false, List, [], ◌∷◌, ◌++◌, Option, None, Some, Result, Ok, Err, length, take, drop, set, get_or, inl, inr, refl, sym, ap}
-use Rattle.std.proofs.Common.{arith, append-nil}
-use Rattle.std.specs.Prelude.{IsErr, slice_get}
-use Rattle.std.proofs.lemmas.Bool.{cases_eq}
+use Rattle.hn_base.proofs.Names.{◌≡◌, ◌∙◌, ◌<◌, ◌+◌, ◌*◌, ◌%◌, ◌≤◌, ℕ, true, false, List, [], ◌∷◌, ◌++◌, Option, None, Some, Result, Ok, Err, length, take, drop, set, get_or, inl, inr, refl, sym, ap}
+use Rattle.hn_base.proofs.Names.{arith, IsErr, cases_eq, drop_more, drop_all, drop-set-lt, take_more_set, length-set, get_or-set_same, get_or-set_other, slice_get-get_or, get_or_from_slice_get}
+use Rattle.hn_run.proofs.Names.{append-nil, decode_of, FromHexError, unblanked}
+use Rattle.std.specs.Prelude.{slice_get}
 use Rattle.std.specs.Option.{is_some}
-use Rattle.std.proofs.lemmas.List.{drop_more, drop_all, drop-set-lt, take_more_set, length-set, get_or-set_same, get_or-set_other}
-use Rattle.std.proofs.lemmas.Option.{slice_get-get_or, get_or_from_slice_get}
-use Rattle.hex.specs.Hex.{decode_of, decode_pairs, hex_digit_value, pair_value}
-use Rattle.hex.specs.declared.error.FromHexError.{FromHexError}
+use Rattle.hex.specs.Hex.{decode_pairs, hex_digit_value, pair_value}
 use Rattle.hex.proofs.HexLemmas.{decode_of-even, decode_of-odd, decode_pairs-ok}
 use Rattle.hex.proofs.Pairs.{prepend, decode_pairs-ok_pair, prepend-cons_byte}
-use Rattle.hn_run.specs.HexText.{is_blank, unblanked, IsHexText, IsNoHexText}
+use Rattle.hn_run.specs.HexText.{is_blank, IsHexText, IsNoHexText}
 
 -- the values of the digits below a number are known
 abbrev pub AreKnown : List (Option ℕ) → ℕ → Type 0

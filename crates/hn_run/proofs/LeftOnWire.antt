@@ -1,22 +1,15 @@
 -- What `udp` leaves where the wire failed.
-use Rattle.std.proofs.Common.{◌≡◌, ◌∙◌, ◌⊎◌, ◌^◌, ◌-◌, inl, inr, ℕ, List, Option, Some, refl, sym, ap, subst, arith}
-use Rattle.hn_base.specs.Input.{IsWhole}
-use Rattle.hn_io.specs.declared.fault.IoFault.TheVariants.{NoMemory}
+use Rattle.hn_base.proofs.Names.{◌≡◌, ◌∙◌, ◌⊎◌, ◌^◌, ◌-◌, inl, inr, ℕ, List, Option, Some, refl, sym, ap, subst, arith, IsWhole}
+use Rattle.hn_run.proofs.Names.{NoMemory, IsLabRun, refused_line, IsNumberText, Datagram, Parts, IsFormOf, Udp}
 use Rattle.hn_lab.specs.declared.end.End.{End}
 use Rattle.hn_lab.specs.declared.end.End.TheVariants as end
 use Rattle.hn_lab.specs.Breaking.{WireFailsAtACopy}
-use Rattle.hn_lab.specs.Lab.{status_of, IsLineWritten, IsLabOf, IsLabRun, IsWholePlay, Plays}
+use Rattle.hn_lab.specs.Lab.{status_of, IsLineWritten, IsLabOf, IsWholePlay, Plays}
 use Rattle.hn_lab.specs.Play.{begun, IsPlay}
-use Rattle.hn_lab.specs.Reports.{refused_line}
 use Rattle.hn_lab.specs.Stage.{Ports}
-use Rattle.hn_script.specs.Field.{IsNumberText}
 use Rattle.hn_script.specs.Script.{IsScript}
 use Rattle.hn_script.specs.declared.script.Script.{Script}
-use Rattle.hn_wire.specs.declared.datagram.Datagram.{Datagram}
-use Rattle.hn_world.specs.declared.parts.Parts.{Parts}
-use Rattle.hn_run.specs.Form.{IsFormOf}
 use Rattle.hn_run.specs.Outcome.{LeavesOnWire}
-use Rattle.hn_run.specs.declared.words.Form.TheVariants.{Udp}
 
 -- only a failed wire has status 5
 wire_failed : (e : End) → 5 ≡ status_of e → e ≡ end.WireFailed

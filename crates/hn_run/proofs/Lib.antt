@@ -1,3 +1,4 @@
+mod Names
 mod HexDigits
 mod Forms
 mod Streams

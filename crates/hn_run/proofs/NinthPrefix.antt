@@ -1,26 +1,18 @@
 -- Whether a line is a ninth prefix: the lines before it say so, whatever the moment and the random words.
-use Rattle.std.proofs.Common.{◌≡◌, ◌∙◌, ◌==◌, ◌&&◌, ◌||◌, inl, inr, ℕ, Bool, true, false, not, cond, List, [], ◌∷◌, ◌++◌, map, filter, length, refl, sym, ap, subst}
-use Rattle.std.proofs.lemmas.List.{map-append, length-map}
-use Rattle.std.specs.List.{list_any}
+use Rattle.hn_base.proofs.Names.{◌≡◌, ◌∙◌, inl, inr, ℕ, Bool, true, false, not, cond, List, [], ◌∷◌, ◌++◌, map, filter, length, refl, sym, ap, subst, map-append, length-map, list_any, PlainPrefix}
+use Rattle.hn_base.proofs.Names.{Then, KeepsBy}
+use Rattle.hn_run.proofs.Names.{EpId, NodeId, Port, endpoints_of, Attach, Done, State, NodeLine, event_of, is_too_many, LinesHappen, IsSetUp, IsOverfull}
+use Rattle.std.proofs.Common.{◌==◌, ◌&&◌, ◌||◌}
 use Rattle.std.specs.Prelude.{nat_lt}
 use Rattle.hn_base.proofs.RulesKeepPart.{kept_then, kept_each, kept_on}
-use Rattle.hn_base.specs.Prefix.{PlainPrefix}
-use Rattle.hn_base.specs.Rules.{Then, KeepsBy}
-use Rattle.hn_base.specs.declared.ids.EpId.{EpId}
-use Rattle.hn_base.specs.declared.ids.NodeId.{NodeId}
-use Rattle.hn_dncp.specs.declared.port.Port.{Port}
 use Rattle.hn_own.specs.OwnPrefixes.{is_before, may_delegate, delegated_with, own_prefix}
-use Rattle.hn_own.specs.Ports.{port_at, endpoints_of}
+use Rattle.hn_own.specs.Ports.{port_at}
 use Rattle.hn_own.specs.declared.own_prefixes.OwnPrefix.{OwnPrefix}
-use Rattle.hn_router.specs.Act.{Attach, Happened}
+use Rattle.hn_router.specs.Act.{Happened}
 use Rattle.hn_rules.specs.Refresh.{network_state_hash, IsPublishing, IsReaching, IsPortReset, IsHashing, IsRefresh}
 use Rattle.hn_rules.specs.Rules.{AtPort}
-use Rattle.hn_rules.specs.declared.done.Done.{Done}
 use Rattle.hn_rules.specs.declared.running.Running.{Running}
-use Rattle.hn_rules.specs.declared.state.State.{State}
-use Rattle.hn_script.specs.declared.node_file.NodeLine.{NodeLine}
 use Rattle.hn_script.specs.declared.node_file.NodeLine.TheVariants as line
-use Rattle.hn_run.specs.Node.{event_of, is_too_many, LinesHappen, IsSetUp, IsOverfull}
 
 -- ---- own delegated prefixes without their lifetimes
 

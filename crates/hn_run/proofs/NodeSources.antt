@@ -1,11 +1,8 @@
 -- What is said of a node file that was read is said of the source that has it.
-use Rattle.std.proofs.Common.{◌≡◌, ◌<◌, ◌≤◌, ◌^◌, ℕ, List, Option, None, length, inl, inr, refl, arith}
-use Rattle.std.specs.Io.KnownBytes.{Appends, Consumes}
-use Rattle.hn_base.specs.Input.{IsWhole}
-use Rattle.hn_node.specs.declared.served.Served.{Served}
+use Rattle.hn_base.proofs.Names.{◌≡◌, ◌<◌, ◌≤◌, ◌^◌, ℕ, List, Option, None, length, inl, inr, refl, arith, Appends, Consumes, IsWhole}
+use Rattle.hn_run.proofs.Names.{Served, ScriptFault, PlainCall, Outside, MakesNode, LineHolds, StatusOfNode, IsNodeRun}
 use Rattle.hn_script.specs.NodeFile.{IsFirstNodeFault}
-use Rattle.hn_script.specs.declared.fault.ScriptFault.{ScriptFault}
-use Rattle.hn_run.specs.Node.{PlainCall, Outside, MakesNode, LineHolds, StatusOfNode, IsNodeRefusal, IsNodeRun}
+use Rattle.hn_run.specs.Node.{IsNodeRefusal}
 use Rattle.hn_run.proofs.Nodes.{unserved, nothing_excluded}
 use Rattle.hn_run.proofs.WatchSources.{some_source, any_source}
 

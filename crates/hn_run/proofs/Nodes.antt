@@ -1,29 +1,15 @@
 -- What `node` comes to, and what it is asked for.
-use Rattle.std.proofs.Common.{◌≡◌, ◌≢◌, ◌∙◌, ◌⊎◌, ◌<◌, ◌≤◌, ◌^◌, ◌-◌, min, zero-add, ℕ, zero, suc, List, [], ◌∷◌, Option, Some, None, Result, Ok, Err, length, take, inl, inr, refl, sym, ap, subst}
-use Rattle.std.proofs.Common.{arith, lit<}
-use Rattle.std.specs.Prelude.{OnOk, OnErr, IfSome, Contains, All}
-use Rattle.std.specs.Io.KnownBytes.{Appends}
-use Rattle.std.specs.List.{AllZip}
-use Rattle.std.proofs.lemmas.List.Elements.{All-nil, All-cons}
-use Rattle.hn_base.specs.Words.{Took, Begins}
-use Rattle.hn_base.specs.declared.ids.NodeId.{NodeId}
-use Rattle.hn_base.specs.declared.version.Version.TheVariants.{One}
-use Rattle.hn_io.specs.declared.fault.IoFault.{IoFault}
-use Rattle.hn_io.specs.declared.fault.IoFault.TheVariants.{Failed, NoMemory}
-use Rattle.hn_lab.specs.Output.{AppendsPart}
+use Rattle.hn_base.proofs.Names.{◌≡◌, ◌≢◌, ◌∙◌, ◌⊎◌, ◌<◌, ◌≤◌, ◌^◌, ◌-◌, min, zero-add, ℕ, zero, suc, List, [], ◌∷◌, Option, Some, None, Result, Ok, Err, length, take, inl, inr, refl, sym, ap, subst}
+use Rattle.hn_base.proofs.Names.{arith, lit<, OnOk, OnErr, All, Appends, AllZip, All-nil, All-cons, Took, Begins}
+use Rattle.hn_run.proofs.Names.{IfSome, Contains, NodeId, One, IoFault, Failed, NoMemory, AppendsPart, Served, IsNumberText, Datagram, written_status, ArePeerPorts, IsFormOf, Node, LineHolds}
+use Rattle.hn_run.proofs.Names.{PlainCall, plain_call, Outside, node_line, line_of, MakesNode, StatusOfNode, NodeCall}
 use Rattle.hn_node.specs.Turns.{Serving, Turns, CutTurns, handed_in}
 use Rattle.hn_node.specs.declared.served.ServeEnd.{ServeEnd}
 use Rattle.hn_node.specs.declared.served.ServeEnd.TheVariants as ending
-use Rattle.hn_node.specs.declared.served.Served.{Served}
-use Rattle.hn_script.specs.Field.{IsNumberText}
-use Rattle.hn_wire.specs.declared.datagram.Datagram.{Datagram}
 use Rattle.hn_world.specs.Within.{IsWithinLimits}
-use Rattle.hn_run.specs.Decode.{written_status}
-use Rattle.hn_run.specs.Form.{ArePeerPorts, IsNodeCall, IsFormOf}
-use Rattle.hn_run.specs.declared.words.Form.TheVariants.{Node}
-use Rattle.hn_run.specs.Node.{LineHolds, PlainCall, plain_call, IsCall, Outside, node_line, line_of, site_of, IsStatusOf, EndsServing, MakesNode, StatusOfNode}
+use Rattle.hn_run.specs.Form.{IsNodeCall}
+use Rattle.hn_run.specs.Node.{IsCall, site_of, IsStatusOf, EndsServing}
 use Rattle.hn_run.proofs.Streams.{Appends-none}
-use Rattle.hn_run.specs.declared.words.NodeCall.{NodeCall}
 
 -- ---- a line that is written
 

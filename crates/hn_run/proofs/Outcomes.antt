@@ -1,12 +1,7 @@
 -- What forms come to.
-use Rattle.std.proofs.Common.{◌≡◌, ◌≢◌, ◌<◌, ◌≤◌, ◌^◌, ◌⊎◌, ℕ, zero, suc, List, [], ◌∷◌, Option, length, inl, inr, sym, arith}
-use Rattle.std.specs.Prelude.{Contains}
-use Rattle.std.specs.Io.KnownBytes.{Consumes}
-use Rattle.hn_base.specs.Input.{IsWhole}
-use Rattle.hn_io.specs.declared.fault.IoFault.TheVariants.{Failed, NoMemory}
-use Rattle.hn_run.specs.Decode.{SpellsTlvs, IsDecodeOf}
-use Rattle.hn_run.specs.Outcome.{DecodeHolds, IsDecodeRun, WatchHolds, IsWatchRun}
-use Rattle.hn_run.specs.Watch.{IsCapture}
+use Rattle.hn_base.proofs.Names.{◌≡◌, ◌≢◌, ◌<◌, ◌≤◌, ◌^◌, ◌⊎◌, ℕ, zero, suc, List, [], ◌∷◌, Option, length, inl, inr, sym, arith, Consumes, IsWhole}
+use Rattle.hn_run.proofs.Names.{Contains, Failed, NoMemory, SpellsTlvs, IsDecodeOf, WatchHolds, IsCapture}
+use Rattle.hn_run.specs.Outcome.{DecodeHolds, IsDecodeRun, IsWatchRun}
 use Rattle.hn_run.proofs.Sources.{decode_longer, cut_longer}
 use Rattle.hn_run.proofs.Streams.{Appends-none, AppendsFront-none}
 use Rattle.hn_run.proofs.WatchSources.{some_source, any_source, written_longer, cut_watch_longer, starved_longer, capture_longer}

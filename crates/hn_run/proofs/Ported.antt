@@ -1,9 +1,6 @@
 -- The words of a call's peers are read as ports, one after the other.
-use Rattle.std.proofs.Common.{◌≡◌, ◌∙◌, ◌<◌, ◌≤◌, ◌+◌, zero, suc, ℕ, List, [], ◌∷◌, length, take, get_or, slice_set, refl, sym, ap, subst, arith}
-use Rattle.std.proofs.lemmas.List.{length-set}
-use Rattle.std.specs.List.{AllZip}
-use Rattle.hn_script.specs.Field.{IsNumberText}
-use Rattle.hn_run.specs.Form.{ArePeerPorts}
+use Rattle.hn_base.proofs.Names.{◌≡◌, ◌∙◌, ◌<◌, ◌≤◌, ◌+◌, zero, suc, ℕ, List, [], ◌∷◌, length, take, get_or, slice_set, refl, sym, ap, subst, arith, length-set, AllZip}
+use Rattle.hn_run.proofs.Names.{IsNumberText, ArePeerPorts}
 
 abbrev IsPort : List ℕ → ℕ → Type 0
 IsPort word port = IsNumberText 1024 65534 word port

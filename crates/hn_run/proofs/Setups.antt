@@ -1,20 +1,13 @@
 -- The router that `node` serves at first.
-use Rattle.std.proofs.Common.{◌≡◌, ◌∙◌, ◌<◌, ℕ, suc, Bool, true, false, List, [], ◌∷◌, ◌++◌, append-nil, append_assoc, length, get_or, take, drop, if◌then◌else◌, refl, sym, ap, subst}
-use Rattle.std.proofs.Math.Seq.{drop-cons}
-use Rattle.std.proofs.lemmas.List.{take-append-drop}
+use Rattle.hn_base.proofs.Names.{◌≡◌, ◌∙◌, ◌<◌, ℕ, suc, Bool, true, false, List, [], ◌∷◌, ◌++◌, append_assoc, length, get_or, take, drop, refl, sym, ap, subst, drop-cons, take-append-drop}
+use Rattle.hn_run.proofs.Names.{append-nil, EpId, NodeId, Port, endpoints_of, Attach, Happened, Done, State, NodeLine, LinesHappen, IsSetUp, IsOverfull, event_of, is_too_many}
+use Rattle.std.proofs.Common.{if◌then◌else◌}
 use Rattle.std.specs.Prelude.{IsTrue}
-use Rattle.hn_base.specs.declared.ids.EpId.{EpId}
-use Rattle.hn_base.specs.declared.ids.NodeId.{NodeId}
-use Rattle.hn_dncp.specs.declared.port.Port.{Port}
-use Rattle.hn_own.specs.Ports.{endpoints_of, is_attached}
-use Rattle.hn_router.specs.Act.{PlainEvent, Attach, Happened, is_refused}
+use Rattle.hn_own.specs.Ports.{is_attached}
+use Rattle.hn_router.specs.Act.{PlainEvent, is_refused}
 use Rattle.hn_router.specs.Laws.{EndpointsFollow, LimitStays, endpoints_by}
 use Rattle.hn_router.specs.New.{IsNew}
-use Rattle.hn_rules.specs.declared.done.Done.{Done}
-use Rattle.hn_rules.specs.declared.state.State.{State}
-use Rattle.hn_script.specs.declared.node_file.NodeLine.{NodeLine}
 use Rattle.hn_script.specs.declared.node_file.NodeLine.TheVariants as line
-use Rattle.hn_run.specs.Node.{LinesHappen, IsSetUp, IsOverfull, event_of, is_too_many}
 
 -- ---- the endpoint
 

@@ -1,9 +1,6 @@
 -- What is said of the bytes that were read is said of a longer source.
-use Rattle.std.proofs.Common.{◌<◌, ◌≤◌, ◌^◌, ℕ, zero, suc, List, [], ◌∷◌, ◌++◌, Option, None, Some, length, inl, inr, arith}
-use Rattle.std.specs.Prelude.{IfSome, Contains}
-use Rattle.hn_io.specs.declared.fault.IoFault.{IoFault}
-use Rattle.hn_io.specs.declared.fault.IoFault.TheVariants.{NoMemory}
-use Rattle.hn_run.specs.Decode.{IsDecodeOf, WritesDecode, CutsDecode}
+use Rattle.hn_base.proofs.Names.{◌<◌, ◌≤◌, ◌^◌, ℕ, zero, suc, List, [], ◌∷◌, ◌++◌, Option, None, Some, length, inl, inr, arith}
+use Rattle.hn_run.proofs.Names.{IfSome, Contains, IoFault, NoMemory, IsDecodeOf, WritesDecode, CutsDecode}
 use Rattle.hn_run.proofs.Streams.{AppendsFront-none}
 
 -- what is among some numbers is among more

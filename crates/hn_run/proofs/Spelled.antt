@@ -1,9 +1,8 @@
 -- A source that spells a list of TLVs is not refused.
-use Rattle.std.proofs.Common.{◌≡◌, ℕ, List, inl, inr, sym, subst, arith}
+use Rattle.hn_base.proofs.Names.{◌≡◌, ℕ, List, inl, inr, sym, subst, arith}
+use Rattle.hn_run.proofs.Names.{HasTlvs, SpellsTlvs, IsDecodeOf}
 use Rattle.hn_base.proofs.Results.{one_value, no_error}
-use Rattle.hn_tlv.specs.Grammar.{HasTlvs}
 use Rattle.hn_tlv.specs.Laws.{ListHasNoFirstFault}
-use Rattle.hn_run.specs.Decode.{SpellsTlvs, IsDecodeOf}
 
 pub not_refused : ListHasNoFirstFault → (bytes text : List ℕ) → SpellsTlvs bytes → IsDecodeOf bytes 2 text → ⊥
 not_refused law bytes text spells (inl (is, inl too_long)) = let short = spells.short in let long = too_long.0 in omega arith

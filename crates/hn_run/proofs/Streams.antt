@@ -1,12 +1,7 @@
 -- One write after another.
-use Rattle.std.proofs.Common.{◌≡◌, ◌∙◌, ℕ, List, [], ◌++◌, Option, None, Some, Result, Ok, Err, sym, ap, refl, arith, append-nil, append_assoc, length-append}
-use Rattle.std.specs.Prelude.{OnErr, IfErr}
-use Rattle.std.specs.Io.KnownBytes.{Appends}
-use Rattle.hn_io.specs.declared.fault.IoFault.{IoFault}
-use Rattle.hn_io.specs.declared.fault.IoFault.TheVariants.{Failed, NoMemory}
-use Rattle.hn_lab.specs.Output.{AppendsFront, AppendsPart}
-use Rattle.hn_lab.specs.Laws.{PiecesAppend}
-use Rattle.hn_run.specs.Decode.{AppendsCut}
+use Rattle.hn_base.proofs.Names.{◌≡◌, ◌∙◌, ℕ, List, [], ◌++◌, Option, None, Some, Result, Ok, Err, sym, ap, refl, arith, append_assoc, length-append, OnErr, IfErr, Appends}
+use Rattle.hn_run.proofs.Names.{append-nil, IoFault, Failed, NoMemory, AppendsPart, PiecesAppend, AppendsCut}
+use Rattle.hn_lab.specs.Output.{AppendsFront}
 
 pub Appends-none : (a : Option (List ℕ)) → Appends a a []
 Appends-none None = tt

@@ -1,11 +1,8 @@
 -- What is said of the bytes that were read is said of a source that has them.
-use Rattle.std.proofs.Common.{◌≢◌, ◌<◌, ◌≤◌, ◌^◌, ℕ, List, [], Option, None, Some, length, refl, inl, inr, arith}
-use Rattle.std.specs.Io.KnownBytes.{Consumes}
-use Rattle.hn_base.specs.Input.{IsWhole}
+use Rattle.hn_base.proofs.Names.{◌≢◌, ◌<◌, ◌≤◌, ◌^◌, ℕ, List, [], Option, None, Some, length, refl, inl, inr, arith, Consumes, IsWhole}
+use Rattle.hn_run.proofs.Names.{IoFault, NoMemory, IsCapture, WritesWatch, CutsWatch, StarvesWatch}
 use Rattle.hn_base.proofs.WholeSources.{of_source}
-use Rattle.hn_io.specs.declared.fault.IoFault.{IoFault}
-use Rattle.hn_io.specs.declared.fault.IoFault.TheVariants.{NoMemory}
-use Rattle.hn_run.specs.Watch.{IsCapture, IsWatchOf, WritesWatch, CutsWatch, StarvesWatch}
+use Rattle.hn_run.specs.Watch.{IsWatchOf}
 
 -- a source that tells its bytes has them, and of another any are possible
 pub some_source : (R : List ℕ → Type 0) → ((whole read : List ℕ) → 2 ^ 24 < length read → length read ≤ length whole → R read → R whole)

@@ -1,14 +1,8 @@
 -- The text of a capture, written line by line.
-use Rattle.std.proofs.Common.{◌≡◌, ◌∙◌, ◌+◌, ◌<◌, ◌≤◌, ℕ, List, [], ◌∷◌, ◌++◌, Option, length, take, drop, get_or, refl, sym, ap, subst, append-nil, append_assoc}
-use Rattle.std.specs.List.{flat_map}
-use Rattle.std.specs.Io.KnownBytes.{Appends}
-use Rattle.std.proofs.lemmas.Grind.{flat_map-append}
-use Rattle.std.proofs.lemmas.List.{take-append-drop, take_more, drop_more, take_all}
-use Rattle.hn_io.specs.declared.fault.IoFault.{IoFault}
-use Rattle.hn_lab.specs.Laws.{PiecesAppend}
-use Rattle.hn_watch.specs.declared.seen.Seen.{Seen}
-use Rattle.hn_run.specs.Decode.{AppendsCut}
-use Rattle.hn_run.specs.Watch.{watch_line, seen_line, watch_text}
+use Rattle.hn_base.proofs.Names.{◌≡◌, ◌∙◌, ◌+◌, ◌<◌, ◌≤◌, ℕ, List, [], ◌∷◌, ◌++◌, Option, length, take, drop, get_or, refl, sym, ap, subst, append_assoc, flat_map, Appends, flat_map-append}
+use Rattle.hn_base.proofs.Names.{take-append-drop, take_more, drop_more, take_all}
+use Rattle.hn_run.proofs.Names.{append-nil, IoFault, PiecesAppend, Seen, AppendsCut, watch_line, watch_text}
+use Rattle.hn_run.specs.Watch.{seen_line}
 use Rattle.hn_run.proofs.Streams.{AppendsCut-more, Appends-none}
 
 -- the text up to a node

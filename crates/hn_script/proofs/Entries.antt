@@ -1,11 +1,6 @@
 -- Lines one after the other: what they give, and that what gives something has no fault.
-use Rattle.std.proofs.Common.{ℕ, ◌+◌, ◌≤◌, List, [], ◌∷◌, ◌++◌, length, Option, Some, None, inl, inr, refl, sym, ap, arith}
-use Rattle.std.proofs.lemmas.Slice.Zip.{AllZip-long}
-use Rattle.hn_script.specs.Entries.{IsEntry, AreLines, numbered}
-use Rattle.hn_script.specs.Fault.{IsPlain, TextFault, WordsFault, FirstWordFault, LineFault}
-use Rattle.hn_script.specs.Field.{IsField}
-use Rattle.hn_script.specs.Language.{Language, SpellsLine, Gives}
-use Rattle.hn_script.specs.Texts.{words_of}
+use Rattle.hn_base.proofs.Names.{ℕ, ◌+◌, ◌≤◌, List, [], ◌∷◌, ◌++◌, length, Option, Some, None, inl, inr, refl, sym, ap, arith, AllZip-long}
+use Rattle.hn_script.proofs.Names.{IsEntry, AreLines, numbered, IsPlain, TextFault, WordsFault, FirstWordFault, LineFault, IsField, Language, SpellsLine, Gives, words_of}
 
 pub no_lines : {A : Type 0} (language : Language A) (n : ℕ) → AreLines language n [] []
 no_lines language n = ([], tt, refl)

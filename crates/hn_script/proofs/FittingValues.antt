@@ -1,24 +1,11 @@
 -- The values of the lines of a script fit.
-use Rattle.std.proofs.Common.{◌≡◌, ◌+◌, ◌<◌, ◌^◌, ℕ, List, [], ◌∷◌, ◌∙◌, get_or, Option, Some, None, sym, subst, arith}
-use Rattle.std.specs.Prelude.{All}
-use Rattle.std.specs.List.{AllZip, AllByRecursion}
-use Rattle.std.proofs.lemmas.List.Elements.{All-nil}
-use Rattle.std.proofs.lemmas.Option.{same_Some, slice_get-get_or}
-use Rattle.hex.specs.Hex.{IsBytes}
-use Rattle.hex.proofs.HexLemmas.{decode_of-ok}
-use Rattle.hn_base.specs.Byte.{IsByte}
-use Rattle.hn_base.specs.HexText.{IsIdText}
-use Rattle.hn_base.specs.declared.version.Version.{Version}
+use Rattle.hn_base.proofs.Names.{◌≡◌, ◌+◌, ◌<◌, ◌^◌, ℕ, List, [], ◌∷◌, ◌∙◌, get_or, Option, Some, None, sym, subst, arith, All, AllZip, AllByRecursion, All-nil, same_Some, slice_get-get_or, IsByte}
+use Rattle.hn_base.proofs.Names.{IsIdText}
+use Rattle.hn_script.proofs.Names.{IsBytes, decode_of-ok, Version, IsEntry, numbered, IsField, IsHexWord, Length, Gives, line_spelling, of_version, words_of, Line, Router, Attach, External, Private}
+use Rattle.hn_script.proofs.Names.{Inject}
 use Rattle.hn_base.proofs.Elements.{all_of}
 use Rattle.hn_base.proofs.NumeralLemmas.{digits_below}
-use Rattle.hn_script.specs.Entries.{IsEntry, numbered}
-use Rattle.hn_script.specs.Field.{IsField, IsHexWord, Length}
-use Rattle.hn_script.specs.Language.{Gives}
 use Rattle.hn_script.specs.Laws.{HasFittingValues, IsPrivateLink, ValuesFit}
-use Rattle.hn_script.specs.Line.{line_spelling, of_version}
-use Rattle.hn_script.specs.Texts.{words_of}
-use Rattle.hn_script.specs.declared.line.Line.{Line}
-use Rattle.hn_script.specs.declared.line.Line.TheVariants.{Router, Attach, External, Private, Inject}
 
 -- ---- a value
 

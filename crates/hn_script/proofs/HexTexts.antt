@@ -1,13 +1,9 @@
 -- What is printed in hexadecimal is read again.
-use Rattle.std.proofs.Common.{◌≡◌, ℕ, suc, ◌+◌, ◌*◌, ◌/◌, ◌%◌, ◌^◌, ◌<◌, ◌≤◌, List, [], ◌∷◌, slice_index, Some, refl, ap, ◌∙◌, arith}
-use Rattle.std.proofs.lemmas.Bool.Decides.{nat_tests}
-use Rattle.std.proofs.lemmas.Nat.{from_be_bytes-to_be_bytes_4}
-use Rattle.std.specs.Char.{digit_value}
-use Rattle.std.specs.Int.{w32, to_be_bytes, from_be_bytes, byte_at}
-use Rattle.std.specs.Str.Parse.{AllDigits, digits_value, digits_value_after}
-use Rattle.hex.specs.Hex.{IsBytes, encode_lower, encode_with, hex_digit_value, lower_digits}
+use Rattle.hn_base.proofs.Names.{◌≡◌, ℕ, suc, ◌+◌, ◌*◌, ◌/◌, ◌%◌, ◌^◌, ◌<◌, ◌≤◌, List, [], ◌∷◌, slice_index, Some, refl, ap, ◌∙◌, arith, nat_tests, from_be_bytes-to_be_bytes_4, digit_value, w32}
+use Rattle.hn_base.proofs.Names.{to_be_bytes, from_be_bytes, byte_at, AllDigits, digits_value, digits_value_after, IsIdText, id_text}
+use Rattle.hn_script.proofs.Names.{IsBytes, lower_digits}
+use Rattle.hex.specs.Hex.{encode_lower, encode_with, hex_digit_value}
 use Rattle.hex.proofs.HexLemmas.{IsDigits-lower_digits}
-use Rattle.hn_base.specs.HexText.{IsIdText, id_text}
 use Rattle.hn_base.proofs.BigEndian.{byte_small, octets, high_bytes}
 use Rattle.hn_script.proofs.WordBytes.{IsWordByte, IsWord}
 

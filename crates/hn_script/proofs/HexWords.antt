@@ -1,13 +1,11 @@
 -- Words in hexadecimal.
-use Rattle.std.proofs.Common.{◌≡◌, ◌≢◌, ℕ, ◌%◌, ◌<◌, Bool, true, false, List, [], ◌∷◌, length, codes, Ok, MatchBool, refl, sym, ap, ◌∙◌, arith}
-use Rattle.std.proofs.lemmas.Bool.{and_parts, false≢true}
-use Rattle.std.proofs.lemmas.Bool.Decides.{nat_tests}
-use Rattle.std.proofs.lemmas.List.Elements.{All-cons, All-head, All-nil, All-tail}
+use Rattle.hn_base.proofs.Names.{◌≡◌, ◌≢◌, ℕ, ◌%◌, ◌<◌, Bool, true, false, List, [], ◌∷◌, length, codes, Ok, MatchBool, refl, sym, ap, ◌∙◌, arith, and_parts, false≢true, nat_tests, All-cons, All-head}
+use Rattle.hn_base.proofs.Names.{All-nil, All-tail, list_all}
+use Rattle.hn_script.proofs.Names.{decode_of, decode_of-ok, IsHexWord}
 use Rattle.std.specs.Char.{is_ascii_hexdigit}
-use Rattle.std.specs.List.{list_all, AllPass}
-use Rattle.hex.specs.Hex.{decode_of, is_hex_digit}
-use Rattle.hex.proofs.HexLemmas.{decode_of-ok, decode_of-digits}
-use Rattle.hn_script.specs.Field.{IsHexWord}
+use Rattle.std.specs.List.{AllPass}
+use Rattle.hex.specs.Hex.{is_hex_digit}
+use Rattle.hex.proofs.HexLemmas.{decode_of-digits}
 
 same_digit : (c : ℕ) → is_ascii_hexdigit c ≡ is_hex_digit c
 same_digit c = grind (arith, nat_tests)

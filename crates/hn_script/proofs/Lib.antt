@@ -1,3 +1,4 @@
+mod Names
 pub mod Entries
 pub mod HexTexts
 pub mod HexWords

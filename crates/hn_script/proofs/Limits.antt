@@ -1,15 +1,7 @@
 -- The lines of a script are of its version, and their numbers in range.
-use Rattle.std.proofs.Common.{ℕ, ◌+◌, List, [], ◌∷◌, Option, Some, None, sym, subst}
-use Rattle.std.specs.List.{AllZip, AllByRecursion}
-use Rattle.hn_script.specs.Field.{IsField}
+use Rattle.hn_base.proofs.Names.{ℕ, ◌+◌, List, [], ◌∷◌, Option, Some, None, sym, subst, AllZip, AllByRecursion}
+use Rattle.hn_script.proofs.Names.{IsField, Version, IsEntry, numbered, Gives, line_spelling, IsOfVersion, of_version, words_of, Line, Attach, Time, Run}
 use Rattle.hn_script.specs.Laws.{IsLimited, ScriptIsLimited, LinesAreOfVersion}
-use Rattle.hn_base.specs.declared.version.Version.{Version}
-use Rattle.hn_script.specs.Entries.{IsEntry, numbered}
-use Rattle.hn_script.specs.Language.{Gives}
-use Rattle.hn_script.specs.Line.{line_spelling, IsOfVersion, of_version}
-use Rattle.hn_script.specs.Texts.{words_of}
-use Rattle.hn_script.specs.declared.line.Line.{Line}
-use Rattle.hn_script.specs.declared.line.Line.TheVariants.{Attach, Time, Run}
 
 limited_fields : (line : Line) (words : List (List ℕ)) → AllZip IsField (line_spelling line).fields words → IsLimited line
 limited_fields (Attach name e link) [] zip = absurd zip

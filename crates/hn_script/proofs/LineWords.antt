@@ -1,23 +1,15 @@
 -- The lines of each first word: some line begins with it, and what is after the word in all lines that do.
-use Rattle.std.proofs.Common.{◌≡◌, ◌≢◌, ◌⊎◌, ℕ, ◌==◌, ◌&&◌, ◌||◌, Bool, true, false, List, [], ◌∷◌, ◌++◌, length, map, Option, None, Err, inl, inr, refl, sym, subst, eq-eqb, arith, replicate, lit≤}
-use Rattle.std.proofs.lemmas.Bool.{false≢true, eqb-true, and_parts, or_left, or_right}
+use Rattle.hn_base.proofs.Names.{◌≡◌, ◌≢◌, ◌⊎◌, ℕ, Bool, true, false, List, [], ◌∷◌, ◌++◌, length, map, Option, None, Err, inl, inr, refl, sym, subst, arith, replicate, lit≤, false≢true, eqb-true}
+use Rattle.hn_base.proofs.Names.{and_parts, or_left, or_right, PlainPrefix}
+use Rattle.hn_script.proofs.Names.{◌==◌, ◌&&◌, eq-eqb, EpId, Letter, M, Name, IsUnknown, FirstWordFault, Field, Named, Node, Endpoint, Number, Prefixed, Capability, Way, Hex, Length, IsOneOf}
+use Rattle.hn_script.proofs.Names.{IsNoneOf, line_spelling, every_line, priority, lifetime, ReadsFields, How, Uni, Line, Router, Link, Attach, Detach, External, Withdraw, Caps, Stop, Start, Seed}
+use Rattle.hn_script.proofs.Names.{Loss, Time, Tick, Run, Deliver, Drop, Flow, Inject, Show, Hash, Used, Prefixes, Elect, Advert, Audit, Compare, Mail, Private, Sync, Address, Addresses, Addressed}
+use Rattle.hn_script.proofs.Names.{Ula, Ulas, Radv, Solicit}
+use Rattle.std.proofs.Common.{◌||◌}
 use Rattle.hn_base.specs.declared.caps.Caps.{Caps as PriorityCaps}
-use Rattle.hn_base.specs.declared.ids.EpId.{EpId}
 use Rattle.hn_base.specs.declared.ids.NodeId.{NodeId}
-use Rattle.hn_base.specs.declared.letter.Letter.{Letter}
-use Rattle.hn_base.specs.declared.letter.Letter.TheVariants.{M}
-use Rattle.hn_base.specs.declared.name.Name.{Name}
-use Rattle.hn_base.specs.Prefix.{PlainPrefix}
-use Rattle.hn_script.specs.Fault.{IsUnknown, FirstWordFault}
-use Rattle.hn_script.specs.Field.{Field, Named, Node, Endpoint, Number, Prefixed, Capability, Way, Hex, Length}
-use Rattle.hn_script.specs.FirstWords.{IsOneOf, IsNoneOf, shared_words, router_words, prefix_words, range_words}
-use Rattle.hn_script.specs.Line.{line_spelling, every_line, any_number, time_from, priority, lifetime}
-use Rattle.hn_script.specs.Reading.{ReadsFields}
-use Rattle.hn_script.specs.declared.line.How.{How}
-use Rattle.hn_script.specs.declared.line.How.TheVariants.{Uni}
-use Rattle.hn_script.specs.declared.line.Line.{Line}
-use Rattle.hn_script.specs.declared.line.Line.TheVariants.{Router, Link, Attach, Detach, External, Withdraw, Caps, Stop, Start, Seed, Loss, Time, Tick, Run, Deliver, Drop, Flow, Inject, Show, Hash}
-use Rattle.hn_script.specs.declared.line.Line.TheVariants.{Used, Prefixes, Elect, Advert, Audit, Compare, Mail, Private, Sync, Address, Addresses, Addressed, Ula, Ulas, Radv, Solicit}
+use Rattle.hn_script.specs.FirstWords.{shared_words, router_words, prefix_words, range_words}
+use Rattle.hn_script.specs.Line.{any_number, time_from}
 use Rattle.hn_script.proofs.WordBytes.{is_letters}
 use Rattle.hn_script.proofs.WordFaults.{fault_after}
 

@@ -1,22 +1,10 @@
 -- Bytes are one node file, or have one first fault as one.
-use Rattle.std.proofs.Common.{◌≡◌, ◌≢◌, ℕ, List, [], ◌∷◌, map, codes, Err, inl, inr, refl, sym, ap, ◌∙◌, subst, arith}
-use Rattle.hn_base.specs.Causes.{OnCause, NoCause}
+use Rattle.hn_base.proofs.Names.{◌≡◌, ◌≢◌, ℕ, List, [], ◌∷◌, map, codes, Err, inl, inr, refl, sym, ap, ◌∙◌, subst, arith, OnCause, NoCause, PlainPrefix}
+use Rattle.hn_script.proofs.Names.{One, same_caps, tail_is, PrefixTextIsOfOne, AreLines, numbered, IsUnknown, FirstWordFault, Field, Number, Prefixed, priority, lifetime, of_node, ReadsFields}
+use Rattle.hn_script.proofs.Names.{first_line, ScriptFault, NodeLine}
 use Rattle.hn_base.specs.declared.caps.Caps.{Caps as PriorityCaps}
-use Rattle.hn_base.specs.declared.version.Version.TheVariants.{One}
-use Rattle.hn_base.specs.Prefix.{PlainPrefix}
-use Rattle.hn_base.proofs.KnownByFields.{same_caps}
-use Rattle.hn_base.proofs.FrontOfList.{tail_is}
-use Rattle.hn_prefix.specs.Laws.{PrefixTextIsOfOne}
-use Rattle.hn_script.specs.Entries.{AreLines, numbered}
-use Rattle.hn_script.specs.Fault.{IsUnknown, FirstWordFault}
-use Rattle.hn_script.specs.Field.{Field, Number, Prefixed}
 use Rattle.hn_script.specs.Laws.{AtMostOneNodeFile, AtMostOneNodeFault, FaultExcludesNodeFile}
-use Rattle.hn_script.specs.Line.{priority, lifetime}
-use Rattle.hn_script.specs.NodeFile.{node_spelling, of_node, NodeFirstLineFault, FaultOfNodeLines}
-use Rattle.hn_script.specs.Reading.{ReadsFields}
-use Rattle.hn_script.specs.Script.{first_line}
-use Rattle.hn_script.specs.declared.fault.ScriptFault.{ScriptFault}
-use Rattle.hn_script.specs.declared.node_file.NodeLine.{NodeLine}
+use Rattle.hn_script.specs.NodeFile.{node_spelling, NodeFirstLineFault, FaultOfNodeLines}
 use Rattle.hn_script.specs.declared.node_file.NodeLine.TheVariants.{Caps, External}
 use Rattle.hn_script.proofs.Entries.{no_text_fault}
 use Rattle.hn_script.proofs.LineWords.{a_prefix, some_caps}

@@ -1,9 +1,9 @@
 -- A text in pieces, cut at the first byte of a kind: the lines of a script, the words of a line.
-use Rattle.std.proofs.Common.{◌≡◌, ℕ, ◌<◌, List, [], ◌∷◌, ◌++◌, length, filter, ◌+◌, ◌==◌, count_by, refl, ap, ◌∙◌, eq-eqb, arith}
-use Rattle.std.proofs.lemmas.Bool.{ne_eqb}
+use Rattle.hn_base.proofs.Names.{◌≡◌, ℕ, ◌<◌, List, [], ◌∷◌, ◌++◌, length, filter, ◌+◌, refl, ap, ◌∙◌, arith, ne_eqb, AllByRecursion, Lacks}
+use Rattle.hn_script.proofs.Names.{◌==◌, eq-eqb}
+use Rattle.std.proofs.Common.{count_by}
 use Rattle.std.proofs.lemmas.List.Splits.{slice_split-cons_yes, slice_split-cons_no, length-slice_split}
-use Rattle.std.specs.List.{AllByRecursion, onto_first}
-use Rattle.hn_base.specs.Splits.{Lacks}
+use Rattle.std.specs.List.{onto_first}
 use Rattle.hn_script.specs.Texts.{pieces, without_empty_end, is_some_text, words_of, lines_of}
 
 -- a text without such a byte is one piece

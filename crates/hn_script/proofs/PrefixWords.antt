@@ -1,10 +1,7 @@
 -- The texts of prefixes as words: they are hexadecimal digits, `:` and `/`.
-use Rattle.std.proofs.Common.{ℕ, ◌<◌, ◌≤◌, List, [], ◌∷◌, ◌++◌, length, codes, inl, inr, subst, sym, arith, length-append}
-use Rattle.hn_base.specs.Numeral.{IsShortNumeral}
-use Rattle.hn_base.proofs.EachByRecursion.{AllByRecursion-append}
+use Rattle.hn_base.proofs.Names.{ℕ, ◌<◌, ◌≤◌, List, [], ◌∷◌, ◌++◌, length, codes, inl, inr, subst, sym, arith, length-append, IsShortNumeral, PlainPrefix}
+use Rattle.hn_script.proofs.Names.{AllByRecursion-append, IsPrefixText}
 use Rattle.hn_prefix.specs.AddressText.{IsGroups, IsGroupsText}
-use Rattle.hn_base.specs.Prefix.{PlainPrefix}
-use Rattle.hn_prefix.specs.PrefixText.{IsPrefixText}
 use Rattle.hn_script.proofs.HexTexts.{IsWord-digits}
 use Rattle.hn_script.proofs.WordBytes.{IsWordByte, IsWord}
 

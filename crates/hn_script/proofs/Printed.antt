@@ -1,35 +1,11 @@
 -- What is printed is read again.
-use Rattle.std.proofs.Common.{◌≡◌, ℕ, ◌+◌, ◌^◌, ◌<◌, ◌≤◌, true, List, [], ◌∷◌, ◌++◌, length, get_or, take, map, codes, Option, Some, None, refl, sym, ap, ◌∙◌, arith, append_assoc}
-use Rattle.std.proofs.lemmas.Bool.{and_parts}
-use Rattle.std.proofs.lemmas.Bool.Decides.{nat_tests}
-use Rattle.std.proofs.lemmas.List.{append-nil, map_push, take_more}
-use Rattle.std.specs.Fmt.{decimal}
-use Rattle.std.specs.List.{AllZip, AllByRecursion, join_with_byte, list_all}
-use Rattle.hex.specs.Hex.{lower_digits}
+use Rattle.hn_base.proofs.Names.{◌≡◌, ℕ, ◌+◌, ◌^◌, ◌<◌, ◌≤◌, true, List, [], ◌∷◌, ◌++◌, length, get_or, take, map, codes, Option, Some, None, refl, sym, ap, ◌∙◌, arith, append_assoc, and_parts}
+use Rattle.hn_base.proofs.Names.{nat_tests, append-nil, map_push, take_more, decimal, AllZip, AllByRecursion, join_with_byte, list_all, id_text, name_text, is_name_byte, IsShortNumeral, Lacks}
+use Rattle.hn_script.proofs.Names.{lower_digits, Letter, M, P, H, L, decimal_is_short, AllByRecursion-append, Lacks-from_fact, prefix_text_of, IsPlain, Field, Named, Node, Endpoint, Number, Prefixed}
+use Rattle.hn_script.proofs.Names.{Capability, Way, Hex, Length, IsField, IsInRange, IsNumberText, field_text, letter_text, way_text, IsPrintable, renumbered, PrintedIsRead, IsEntry, numbered}
+use Rattle.hn_script.proofs.Names.{line_spelling, IsOfVersion, of_version, values_text, line_text, ended, first_line, words_of, lines_of, How, Uni, Multi, Far, Line, Version}
 use Rattle.hex.proofs.HexLemmas.{decode_of-encode_lower, length-encode_with}
-use Rattle.hn_base.specs.HexText.{id_text}
-use Rattle.hn_base.specs.declared.letter.Letter.{Letter}
-use Rattle.hn_base.specs.declared.letter.Letter.TheVariants.{M, P, H, L}
-use Rattle.hn_base.specs.Name.{name_text}
-use Rattle.hn_base.specs.NameText.{is_name_byte}
-use Rattle.hn_base.specs.Numeral.{IsShortNumeral}
-use Rattle.hn_base.specs.Splits.{Lacks}
-use Rattle.hn_base.proofs.NumeralLemmas.{decimal_is_short}
-use Rattle.hn_base.proofs.EachByRecursion.{AllByRecursion-append}
-use Rattle.hn_base.proofs.SplitLemmas.{Lacks-from_fact}
-use Rattle.hn_prefix.specs.PrefixText.{prefix_text_of}
 use Rattle.hn_prefix.specs.Laws.{PrefixTextIsRead}
-use Rattle.hn_script.specs.Fault.{IsPlain}
-use Rattle.hn_script.specs.Field.{Field, Named, Node, Endpoint, Number, Prefixed, Capability, Way, Hex, Length, IsField, IsInRange, IsNumberText, field_text, letter_text, way_text}
-use Rattle.hn_script.specs.Laws.{IsPrintable, renumbered, PrintedIsRead}
-use Rattle.hn_script.specs.Entries.{IsEntry, numbered}
-use Rattle.hn_script.specs.Line.{line_spelling, IsOfVersion, of_version, values_text, line_text}
-use Rattle.hn_script.specs.Script.{ended, first_line}
-use Rattle.hn_script.specs.Texts.{words_of, lines_of}
-use Rattle.hn_script.specs.declared.line.How.{How}
-use Rattle.hn_script.specs.declared.line.How.TheVariants.{Uni, Multi, Far}
-use Rattle.hn_script.specs.declared.line.Line.{Line}
-use Rattle.hn_base.specs.declared.version.Version.{Version}
 use Rattle.hn_script.proofs.SameScripts.{plain_first}
 use Rattle.hn_script.proofs.HexTexts.{printed_id, IsWord-digits, IsWord-hex}
 use Rattle.hn_script.proofs.LineWords.{first_letters}

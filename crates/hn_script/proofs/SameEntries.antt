@@ -1,13 +1,9 @@
 -- Lines of a language are given once, and have one first fault.
-use Rattle.std.proofs.Common.{◌≡◌, ℕ, ◌+◌, List, [], ◌∷◌, Option, Some, None, inl, inr, refl, ap, ◌∙◌, sym, arith}
-use Rattle.std.specs.List.{AllZip}
-use Rattle.hn_base.specs.Causes.{OnCause, NoCause}
+use Rattle.hn_base.proofs.Names.{◌≡◌, ℕ, ◌+◌, List, [], ◌∷◌, Option, Some, None, inl, inr, refl, ap, ◌∙◌, sym, arith, AllZip, OnCause, NoCause}
+use Rattle.hn_script.proofs.Names.{IsEntry, FaultFrom, IsUnknown, TextFault, WordsFault, LineFault, Language, SpellsLine, Gives, words_of, lines_of, ScriptFault}
 use Rattle.hn_base.proofs.FirstCause.{one_cause}
-use Rattle.hn_script.specs.Entries.{IsEntry, FaultFrom, BytesFault}
-use Rattle.hn_script.specs.Fault.{IsUnknown, IsMiscounted, IsMalformed, TextFault, WordsFault, LineFault}
-use Rattle.hn_script.specs.Language.{Language, SpellsLine, Gives}
-use Rattle.hn_script.specs.Texts.{words_of, lines_of}
-use Rattle.hn_script.specs.declared.fault.ScriptFault.{ScriptFault}
+use Rattle.hn_script.specs.Entries.{BytesFault}
+use Rattle.hn_script.specs.Fault.{IsMiscounted, IsMalformed}
 use Rattle.hn_script.proofs.Entries.{no_line_fault}
 
 -- words spell one line

@@ -1,26 +1,15 @@
 -- A word writes one value of a kind, and words spell one line.
-use Rattle.std.proofs.Common.{◌≡◌, ◌≢◌, ℕ, ◌==◌, if◌then◌else◌, true, false, List, [], ◌∷◌, map, codes, slice_index, Option, Some, None, Ok, refl, sym, ap, ◌∙◌, subst, arith}
-use Rattle.std.proofs.lemmas.Bool.{false≢true}
-use Rattle.std.specs.List.{AllZip}
-use Rattle.hex.specs.Hex.{decode_of}
-use Rattle.hex.proofs.HexLemmas.{decode_of-ok, decode_of-same}
+use Rattle.hn_base.proofs.Names.{◌≡◌, ◌≢◌, ℕ, true, false, List, [], ◌∷◌, map, codes, slice_index, Option, Some, None, Ok, refl, sym, ap, ◌∙◌, subst, arith, false≢true, AllZip}
+use Rattle.hn_script.proofs.Names.{◌==◌, decode_of, decode_of-ok, Letter, M, P, H, L, PrefixTextIsOfOne, Field, Named, Node, Endpoint, Number, Prefixed, Capability, Way, Hex, Length, IsField}
+use Rattle.hn_script.proofs.Names.{IsHexWord, IsNumberText, letter_text, way_text, line_spelling, of_version, Name, Version, How, Uni, Multi, Far, Line, Router, Link, Attach, Detach, External}
+use Rattle.hn_script.proofs.Names.{Withdraw, Caps, Stop, Start, Seed, Loss, Time, Tick, Run, Deliver, Drop, Flow, Inject, Show, Hash, Used, Prefixes, Elect, Advert, Audit, Compare, Mail, Private}
+use Rattle.hn_script.proofs.Names.{Sync, Address, Addresses, Addressed, Ula, Ulas, Radv, Solicit, same_caps}
+use Rattle.std.proofs.Common.{if◌then◌else◌}
+use Rattle.hex.proofs.HexLemmas.{decode_of-same}
 use Rattle.hn_base.proofs.NumeralLemmas.{same_number}
-use Rattle.hn_base.specs.declared.letter.Letter.{Letter}
-use Rattle.hn_base.specs.declared.letter.Letter.TheVariants.{M, P, H, L}
-use Rattle.hn_prefix.specs.Laws.{PrefixTextIsOfOne}
-use Rattle.hn_script.specs.Field.{Field, Named, Node, Endpoint, Number, Prefixed, Capability, Way, Hex, Length, IsField, IsHexWord, IsNumberText, letter_text, way_text}
-use Rattle.hn_script.specs.Line.{line_spelling, of_version}
 use Rattle.hn_base.specs.declared.caps.Caps.{Caps as PriorityCaps}
-use Rattle.hn_base.specs.declared.name.Name.{Name}
-use Rattle.hn_base.specs.declared.version.Version.{Version}
-use Rattle.hn_script.specs.declared.line.How.{How}
-use Rattle.hn_script.specs.declared.line.How.TheVariants.{Uni, Multi, Far}
-use Rattle.hn_script.specs.declared.line.Line.{Line}
-use Rattle.hn_script.specs.declared.line.Line.TheVariants.{Router, Link, Attach, Detach, External, Withdraw, Caps, Stop, Start, Seed, Loss, Time, Tick, Run, Deliver, Drop, Flow, Inject, Show, Hash}
-use Rattle.hn_script.specs.declared.line.Line.TheVariants.{Used, Prefixes, Elect, Advert, Audit, Compare, Mail, Private, Sync, Address, Addresses, Addressed, Ula, Ulas, Radv, Solicit}
 use Rattle.hn_script.proofs.LineWords.{same_text, same_text-refl}
 use Rattle.hn_script.proofs.SameEntries.{IsTold}
-use Rattle.hn_base.proofs.KnownByFields.{same_caps}
 use Rattle.hn_script.proofs.Values.{same_name}
 use Rattle.hn_base.proofs.Keys.{same_id, same_node}
 

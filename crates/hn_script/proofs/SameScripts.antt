@@ -1,17 +1,10 @@
 -- Bytes are one script, or have one first fault.
-use Rattle.std.proofs.Common.{◌≡◌, ◌≢◌, ◌≤◌, ℕ, List, [], ◌∷◌, length, slice_index, inl, inr, refl, sym, ap, ◌∙◌, subst, arith}
-use Rattle.hn_base.specs.Causes.{OnCause, NoCause}
-use Rattle.hn_base.specs.declared.version.Version.{Version}
-use Rattle.hn_base.specs.declared.version.Version.TheVariants.{One, Two}
-use Rattle.hn_base.proofs.FrontOfList.{head_is, tail_is}
-use Rattle.hn_prefix.specs.Laws.{PrefixTextIsOfOne}
-use Rattle.hn_script.specs.Entries.{AreLines, FaultFrom, numbered}
-use Rattle.hn_script.specs.Fault.{IsPlain}
+use Rattle.hn_base.proofs.Names.{◌≡◌, ◌≢◌, ◌≤◌, ℕ, List, [], ◌∷◌, length, slice_index, inl, inr, refl, sym, ap, ◌∙◌, subst, arith, OnCause, NoCause}
+use Rattle.hn_script.proofs.Names.{Version, One, tail_is, PrefixTextIsOfOne, AreLines, FaultFrom, numbered, IsPlain, of_version, first_line, ScriptFault, Line}
+use Rattle.hn_base.specs.declared.version.Version.TheVariants.{Two}
+use Rattle.hn_base.proofs.FrontOfList.{head_is}
 use Rattle.hn_script.specs.Laws.{AtMostOneScript, AtMostOneFault, FaultExcludesScript}
-use Rattle.hn_script.specs.Line.{of_version}
-use Rattle.hn_script.specs.Script.{FaultOfLines, FirstLineFault, first_line}
-use Rattle.hn_script.specs.declared.fault.ScriptFault.{ScriptFault}
-use Rattle.hn_script.specs.declared.line.Line.{Line}
+use Rattle.hn_script.specs.Script.{FaultOfLines, FirstLineFault}
 use Rattle.hn_script.proofs.Entries.{no_text_fault}
 use Rattle.hn_script.proofs.SameEntries.{same_entries, no_fault_from, sole_none, sole_else, sole_text, same_fault, one_fault_from, one_bytes_fault}
 use Rattle.hn_script.proofs.SameFields.{same_line}

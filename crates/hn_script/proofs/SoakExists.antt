@@ -1,15 +1,9 @@
 -- Each text of a soak is a script.
-use Rattle.std.proofs.Common.{◌≡◌, ℕ, zero, suc, ◌-◌, ◌/◌, ◌^◌, ◌<◌, List, [], ◌∷◌, ◌++◌, length, replicate, refl, sym, subst, inl, inr, arith, length-append, ◌⊎◌, ◌≢◌}
-use Rattle.std.proofs.lemmas.List.{length-replicate}
-use Rattle.std.proofs.Math.Seq.{take-append_seam, drop-append_seam}
-use Rattle.hn_base.specs.NameText.{IsNameText}
-use Rattle.hn_base.specs.declared.name.Name.{Name}
-use Rattle.hn_script.specs.Field.{IsNameWord}
-use Rattle.hn_script.specs.Laws.{PrintedIsRead, SoakIsAScript}
-use Rattle.hn_script.specs.Soak.{router_name, link_name, up_to, chance_texts, link_texts, upward_texts, router_texts, run_texts, report_texts}
-use Rattle.hn_script.specs.SoakLines.{Adds}
-use Rattle.hn_script.specs.declared.line.Line.{Line}
-use Rattle.hn_script.specs.declared.line.Line.TheVariants.{Router, Link, Attach, External, Seed, Loss, Run}
+use Rattle.hn_base.proofs.Names.{◌≡◌, ℕ, zero, suc, ◌-◌, ◌/◌, ◌^◌, ◌<◌, List, [], ◌∷◌, ◌++◌, length, replicate, refl, sym, subst, inl, inr, arith, length-append, ◌⊎◌, ◌≢◌, length-replicate}
+use Rattle.hn_base.proofs.Names.{take-append_seam, drop-append_seam, IsNameText}
+use Rattle.hn_script.proofs.Names.{Name, IsNameWord, PrintedIsRead, router_name, link_name, up_to, upward_texts, Adds, Line, Router, Link, Attach, External, Seed, Loss, Run}
+use Rattle.hn_script.specs.Laws.{SoakIsAScript}
+use Rattle.hn_script.specs.Soak.{chance_texts, link_texts, router_texts, run_texts, report_texts}
 use Rattle.hn_script.proofs.SoakScripts.{soak_so, adds_all}
 use Rattle.hn_script.proofs.SoakTexts.{numbered_name, first_name, seed_line, loss_line, link_line, router_line, first_attach_line, second_attach_line, uplink, external_line, run_line, compare_line}
 use Rattle.hn_script.proofs.SoakTexts.{audit_line, used_line, prefixes_line, mail_line, show_line, adds_none, adds_one, adds_both, adds_then, adds_no_upward, adds_upward}

@@ -1,18 +1,11 @@
 -- The lines of the script of a soak, numbered from 2, are the script.
-use Rattle.std.proofs.Common.{◌≡◌, ℕ, zero, suc, ◌+◌, ◌*◌, ◌/◌, ◌≤◌, Bool, true, false, cond, List, [], ◌∷◌, ◌++◌, length, map, codes, Some, refl, sym, ap, subst, ◌∙◌, arith, length-append}
-use Rattle.std.proofs.lemmas.Slice.Zip.{AllZip-long}
-use Rattle.std.specs.Prelude.{◌==◌}
-use Rattle.std.specs.List.{AllZip, AllByRecursion}
-use Rattle.hn_base.specs.HexText.{id_text}
-use Rattle.hn_script.specs.Laws.{IsPrintable, PrintedIsRead, renumbered}
-use Rattle.hn_script.specs.Entries.{most_bytes, numbered}
-use Rattle.hn_script.specs.Line.{IsOfVersion, line_text}
-use Rattle.hn_script.specs.Script.{IsScript, ended, first_line, script_text}
-use Rattle.hn_script.specs.Soak.{router_name, link_name, up_to, chance_texts, link_texts, upward_texts, router_texts, run_texts, report_texts, soak_texts, soak_text}
-use Rattle.hn_script.specs.SoakLines.{IsLineOf, Adds}
-use Rattle.hn_script.specs.declared.line.Line.{Line}
-use Rattle.hn_script.specs.declared.script.Script.{Script}
-use Rattle.hn_base.specs.declared.version.Version.TheVariants.{One}
+use Rattle.hn_base.proofs.Names.{◌≡◌, ℕ, zero, suc, ◌+◌, ◌*◌, ◌/◌, ◌≤◌, Bool, true, false, cond, List, [], ◌∷◌, ◌++◌, length, map, codes, Some, refl, sym, ap, subst, ◌∙◌, arith, length-append}
+use Rattle.hn_base.proofs.Names.{AllZip-long, ◌==◌, AllZip, AllByRecursion, id_text}
+use Rattle.hn_script.proofs.Names.{IsPrintable, PrintedIsRead, renumbered, numbered, IsOfVersion, line_text, IsScript, ended, first_line, router_name, link_name, up_to, IsLineOf, Adds, Line, Script}
+use Rattle.hn_script.proofs.Names.{One}
+use Rattle.hn_script.specs.Entries.{most_bytes}
+use Rattle.hn_script.specs.Script.{script_text}
+use Rattle.hn_script.specs.Soak.{chance_texts, link_texts, upward_texts, router_texts, run_texts, report_texts, soak_texts, soak_text}
 use Rattle.hn_script.proofs.SoakTexts.{adds_both}
 
 -- ---- how many lines there are

@@ -1,29 +1,15 @@
 -- The lines of the script of a soak are printed as its texts.
-use Rattle.std.proofs.Common.{◌≡◌, ◌≢◌, ℕ, ◌+◌, ◌*◌, ◌/◌, ◌^◌, ◌-◌, ◌<◌, ◌≤◌, true, List, [], ◌∷◌, ◌++◌, length, map, codes, refl, sym, ap, subst, ◌∙◌, arith, append_assoc, add-one, lit<, lit≤}
-use Rattle.std.proofs.lemmas.List.{append-nil}
-use Rattle.std.proofs.Common.{length-append}
-use Rattle.std.proofs.lemmas.Bool.{ne_eqb}
-use Rattle.std.proofs.lemmas.Bool.Decides.{nat_tests}
-use Rattle.std.specs.Char.{digit_value, is_ascii_alphabetic}
-use Rattle.std.specs.Fmt.{decimal, digits}
+use Rattle.hn_base.proofs.Names.{◌≡◌, ◌≢◌, ℕ, ◌+◌, ◌*◌, ◌/◌, ◌^◌, ◌-◌, ◌<◌, ◌≤◌, true, List, [], ◌∷◌, ◌++◌, length, map, codes, refl, sym, ap, subst, ◌∙◌, arith, append_assoc, add-one, lit<, lit≤}
+use Rattle.hn_base.proofs.Names.{append-nil, length-append, ne_eqb, nat_tests, digit_value, decimal, AllZip, AllByRecursion, join_with_byte, list_all, AllDigits, id_text, name_text, IsNameText}
+use Rattle.hn_base.proofs.Names.{is_name_byte, PlainPrefix, IsPrefix}
+use Rattle.hn_script.proofs.Names.{Name, decimal_is_short, Field, Named, Node, Endpoint, Number, Prefixed, IsInRange, IsNameWord, field_text, One, line_spelling, IsOfVersion, line_text, router_name}
+use Rattle.hn_script.proofs.Names.{link_name, up_to, IsLineOf, Adds, Line, Router, Link, Attach, External, Seed, Loss, Run, Used, Prefixes, Audit, Show, Compare, Mail}
+use Rattle.std.specs.Char.{is_ascii_alphabetic}
+use Rattle.std.specs.Fmt.{digits}
 use Rattle.std.specs.Net.Text.{hex_groups_text, hex}
-use Rattle.std.specs.List.{AllZip, AllByRecursion, join_with_byte, list_all}
-use Rattle.std.specs.Str.Parse.{AllDigits}
-use Rattle.hn_base.specs.HexText.{id_text}
-use Rattle.hn_base.specs.Name.{name_text}
-use Rattle.hn_base.specs.NameText.{IsNameText, is_name_byte}
-use Rattle.hn_base.specs.declared.name.Name.{Name}
-use Rattle.hn_base.proofs.NumeralLemmas.{decimal_is_short}
 use Rattle.hn_prefix.specs.AddressText.{groups, address_text_of}
-use Rattle.hn_base.specs.Prefix.{PlainPrefix, IsPrefix}
 use Rattle.hn_prefix.specs.PrefixText.{prefix_text_of}
-use Rattle.hn_script.specs.Field.{Field, Named, Node, Endpoint, Number, Prefixed, IsInRange, IsNameWord, field_text}
-use Rattle.hn_base.specs.declared.version.Version.TheVariants.{One}
-use Rattle.hn_script.specs.Line.{line_spelling, IsOfVersion, line_text}
-use Rattle.hn_script.specs.Soak.{router_name, link_name, up_to, upward_texts}
-use Rattle.hn_script.specs.SoakLines.{IsLineOf, Adds}
-use Rattle.hn_script.specs.declared.line.Line.{Line}
-use Rattle.hn_script.specs.declared.line.Line.TheVariants.{Router, Link, Attach, External, Seed, Loss, Run, Used, Prefixes, Audit, Show, Compare, Mail}
+use Rattle.hn_script.specs.Soak.{upward_texts}
 use Rattle.hn_script.proofs.HexTexts.{printed_id}
 
 -- ---- names

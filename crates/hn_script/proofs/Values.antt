@@ -1,10 +1,8 @@
 -- Names are what their texts say: the facts that their type keeps have one proof each.
-use Rattle.std.proofs.Common.{◌≡◌, ℕ, ◌-◌, ◌≤◌, List, ◌++◌, length, refl, sym, ap, ◌∙◌, arith, take-append-drop, length-take, replicate}
-use Rattle.std.proofs.Props.{props}
+use Rattle.hn_base.proofs.Names.{◌≡◌, ℕ, ◌-◌, ◌≤◌, List, ◌++◌, length, refl, sym, ap, ◌∙◌, arith, replicate, props, name_text, IsNameText, IsPadded, first_bytes}
+use Rattle.hn_script.proofs.Names.{Name}
+use Rattle.std.proofs.Common.{take-append-drop, length-take}
 use Rattle.hn_base.proofs.KnownByFields.{same_made}
-use Rattle.hn_base.specs.declared.name.Name.{Name}
-use Rattle.hn_base.specs.Name.{name_text}
-use Rattle.hn_base.specs.NameText.{IsNameText, IsPadded, first_bytes}
 
 IsName : ℕ × List ℕ → Type 0
 IsName name = (name.0 ≤ 16) × IsNameText (first_bytes name.0 name.1) × IsPadded name.0 name.1

@@ -1,15 +1,10 @@
 -- What is read of all lines is read of those of a version.
-use Rattle.std.proofs.Common.{◌≡◌, ◌⊎◌, ℕ, Bool, true, false, not, List, Result, Ok, Err, MatchBool, inl, inr, refl, sym, subst}
-use Rattle.std.proofs.lemmas.Bool.{false≢true}
-use Rattle.hn_base.specs.declared.version.Version.{Version}
-use Rattle.hn_base.specs.declared.version.Version.TheVariants.{One}
-use Rattle.hn_script.specs.Fault.{IsUnknown, FirstWordFault}
-use Rattle.hn_script.specs.FirstWords.{IsOneOf, IsNoneOf, later_words}
-use Rattle.hn_script.specs.Line.{line_spelling, IsOfVersion, every_line, of_version}
+use Rattle.hn_base.proofs.Names.{◌≡◌, ◌⊎◌, ℕ, Bool, true, false, not, List, Result, Ok, Err, MatchBool, inl, inr, refl, sym, subst, false≢true}
+use Rattle.hn_script.proofs.Names.{Version, One, IsUnknown, FirstWordFault, IsOneOf, IsNoneOf, line_spelling, IsOfVersion, every_line, of_version, Line, Private, Sync, Address, Addresses, Addressed}
+use Rattle.hn_script.proofs.Names.{Ula, Ulas, Radv, Solicit}
+use Rattle.hn_script.specs.FirstWords.{later_words}
 use Rattle.hn_script.specs.Reading.{ReadsDraft, AreOfVersion}
 use Rattle.hn_script.specs.declared.draft.Draft.{Draft}
-use Rattle.hn_script.specs.declared.line.Line.{Line}
-use Rattle.hn_script.specs.declared.line.Line.TheVariants.{Private, Sync, Address, Addresses, Addressed, Ula, Ulas, Radv, Solicit}
 use Rattle.hn_script.proofs.LineWords.{is_one_of, one_of, none_of}
 
 fault_of_version : (version : Version) (word : List ℕ) (words : List (List ℕ)) (code : ℕ) → AreOfVersion version word

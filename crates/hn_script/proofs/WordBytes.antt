@@ -1,15 +1,9 @@
 -- Texts that are words: each byte is above the space, and printable.
-use Rattle.std.proofs.Common.{◌≡◌, ◌≢◌, ℕ, ◌<◌, ◌≤◌, ◌&&◌, Bool, true, false, nat_lt, List, [], ◌∷◌, length, slice_index, arith}
-use Rattle.std.proofs.lemmas.Bool.{and_parts, false≢true}
-use Rattle.std.proofs.lemmas.Bool.Decides.{nat_tests}
-use Rattle.std.proofs.lemmas.Str.{IsUtf8-from_ascii}
+use Rattle.hn_base.proofs.Names.{◌≡◌, ◌≢◌, ℕ, ◌<◌, ◌≤◌, Bool, true, false, nat_lt, List, [], ◌∷◌, length, slice_index, arith, and_parts, false≢true, nat_tests, IsUtf8-from_ascii, AllByRecursion}
+use Rattle.hn_base.proofs.Names.{list_all, IsAscii, IsUtf8, Lacks}
+use Rattle.hn_script.proofs.Names.{◌&&◌, Lacks-from_fact, IsPlain}
 use Rattle.std.proofs.lemmas.Str.Ascii.{IsAscii-nil, IsAscii-cons}
-use Rattle.std.specs.List.{AllByRecursion, list_all}
-use Rattle.std.specs.Str.{IsAscii, IsUtf8}
-use Rattle.hn_base.specs.Splits.{Lacks}
 use Rattle.hn_base.proofs.EachByRecursion.{AllByRecursion-weaker}
-use Rattle.hn_base.proofs.SplitLemmas.{Lacks-from_fact}
-use Rattle.hn_script.specs.Fault.{IsPlain}
 
 -- a byte of a word
 abbrev pub IsWordByte : ℕ → Type 0

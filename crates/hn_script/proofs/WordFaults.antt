@@ -1,10 +1,6 @@
 -- What is wrong with the words after a first word, in any language.
-use Rattle.std.proofs.Common.{◌≡◌, ℕ, List, length, Err, inl, inr, sym, ap, ◌∙◌, subst}
-use Rattle.std.specs.List.{AllZip}
-use Rattle.hn_script.specs.Fault.{FirstWordFault}
-use Rattle.hn_script.specs.Field.{Field, IsField}
-use Rattle.hn_script.specs.Language.{Language}
-use Rattle.hn_script.specs.Reading.{ReadsFields}
+use Rattle.hn_base.proofs.Names.{◌≡◌, ℕ, List, length, Err, inl, inr, sym, ap, ◌∙◌, subst, AllZip}
+use Rattle.hn_script.proofs.Names.{FirstWordFault, Field, IsField, Language, ReadsFields}
 
 -- some line begins with the word, and all that do have values of one form after it
 pub fault_after : {L A : Type 0} (language : Language L) (word : List ℕ) (some : L) → language.has some → (language.spelling some).first ≡ word

@@ -1,15 +1,11 @@
 -- What the advertised prefixes and the Common Links of a home have.
-use Rattle.std.proofs.Common.{◌≡◌, ℕ, true, Option, Some, None, refl, sym, ap, ◌∙◌, subst}
-use Rattle.std.specs.Prelude.{Contains, ◌==◌, option_map, filter}
-use Rattle.std.proofs.lemmas.Bool.{eqb-true, eq-eqb}
-use Rattle.hn_base.specs.declared.ids.NodeId.{NodeId}
-use Rattle.hn_base.specs.declared.ids.EpId.{EpId}
+use Rattle.hn_base.proofs.Names.{◌≡◌, ℕ, true, Option, Some, None, refl, sym, ap, ◌∙◌, subst, ◌==◌, eqb-true, eq-eqb}
+use Rattle.hn_sound.proofs.Names.{Contains, NodeId, EpId, Advertised, key_of, Home, Endpoint, Held, advertised, common_link, in_filter, from_filter}
+use Rattle.std.specs.Prelude.{option_map, filter}
 use Rattle.hn_base.proofs.AscendingLists.{Contains-map, Contains-from_map}
-use Rattle.hn_assign.specs.declared.assigned.Advertised.{Advertised}
-use Rattle.hn_assign.specs.Advertised.{key_of}
-use Rattle.hn_sound.specs.Home.{Home, Endpoint, Held, advertised, advertised_as, common_link}
+use Rattle.hn_sound.specs.Home.{advertised_as}
 use Rattle.hn_sound.specs.Members.{IsAdvertisedInHome, IsOnLinkOf}
-use Rattle.hn_base.proofs.Elements.{in_filter, from_filter, in_filter_map, from_filter_map}
+use Rattle.hn_base.proofs.Elements.{in_filter_map, from_filter_map}
 
 -- what a published assignment is advertised as
 as_published : (h : Held) (priority : ℕ) → h.assigned.published ≡ Some priority → advertised_as h ≡ Some (record { key = key_of priority h.node.0 h.assigned.endpoint.0; prefix = h.assigned.prefix })

@@ -1,7 +1,8 @@
 -- Which elements lists have.
-use Rattle.std.proofs.Common.{◌⊎◌, inl, inr, List, [], ◌∷◌, sym, subst}
+use Rattle.hn_base.proofs.Names.{◌⊎◌, inl, inr, List, [], ◌∷◌, sym, subst}
+use Rattle.hn_sound.proofs.Names.{nothing_in, Contains-head, Contains-cases}
 use Rattle.std.specs.List.{Contains}
-use Rattle.hn_base.proofs.AscendingLists.{nothing_in, Contains-head, Contains-tail, Contains-cases}
+use Rattle.hn_base.proofs.AscendingLists.{Contains-tail}
 
 -- ---- an element with a fact that can be decided
 

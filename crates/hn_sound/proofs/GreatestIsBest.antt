@@ -1,27 +1,12 @@
 -- Candidates for the best assignment of a link are what is published there for the delegated prefix, and the greatest
 -- key among them is that of the best one.
-use Rattle.std.proofs.Common.{◌≡◌, ◌≢◌, ℕ, ◌⊎◌, inl, inr, Option, Some, None, refl, sym, ap, ◌∙◌, subst, rules}
-use Rattle.std.specs.Prelude.{Contains, unwrap_or}
-use Rattle.std.specs.Cmp.{IsTotalOrder}
-use Rattle.std.specs.Cmp.Rules.{comparing}
-use Rattle.std.specs.declared.cmp.Ordering.{Ordering}
-use Rattle.std.specs.declared.cmp.Ordering.TheVariants.{Less, Equal, Greater}
-use Rattle.std.specs.Ordering.{on, ordering_then}
-use Rattle.std.proofs.lemmas.Bool.{cases_eq}
-use Rattle.std.proofs.lemmas.Cmp.{on_total, tied_itself}
-use Rattle.hn_base.specs.declared.ids.EpId.{EpId}
-use Rattle.hn_base.specs.declared.key.Key.{Key}
-use Rattle.hn_base.specs.Key.{key_cmp}
-use Rattle.hn_base.proofs.Keys.{same_node, key_total, exact_key}
-use Rattle.hn_base.specs.Prefix.{PlainPrefix, IsWithin, Overlaps, prefix_cmp}
-use Rattle.hn_assign.specs.declared.assigned.Advertised.{Advertised}
-use Rattle.hn_assign.specs.declared.assigned.Assigned.{Assigned}
-use Rattle.hn_assign.specs.Advertised.{key_of, IsAdvertisedOnLink, advertised_cmp}
-use Rattle.hn_assign.specs.Best.{IsCandidatePrefix, IsBest}
-use Rattle.hn_sound.specs.Home.{Home, Endpoint, Held, EndpointHasAssignment, HasPublished, advertised, common_link, key_at}
-use Rattle.hn_sound.specs.Premises.{Meets, IsHome}
-use Rattle.hn_sound.specs.Premises.Premise.{OneLink, OnceOnLink, UsedApart, ForUsed, PublishedInside, OneEach}
-use Rattle.hn_sound.specs.Sound.{IsGreatestOnLink, HasNoPublisher}
+use Rattle.hn_base.proofs.Names.{◌≡◌, ◌≢◌, ℕ, ◌⊎◌, inl, inr, Option, Some, None, refl, sym, ap, ◌∙◌, subst, rules, unwrap_or, IsTotalOrder, comparing, Less, Equal, Greater, on, ordering_then}
+use Rattle.hn_base.proofs.Names.{cases_eq, on_total, tied_itself, key_cmp, PlainPrefix, IsWithin, Overlaps, prefix_cmp}
+use Rattle.hn_sound.proofs.Names.{Contains, Ordering, EpId, Key, same_node, key_total, Advertised, Assigned, key_of, IsAdvertisedOnLink, advertised_cmp, IsCandidatePrefix, IsBest, Home, Endpoint}
+use Rattle.hn_sound.proofs.Names.{Held, EndpointHasAssignment, HasPublished, advertised, common_link, key_at, Meets, IsHome, OneLink, OnceOnLink, UsedApart, ForUsed, PublishedInside, OneEach}
+use Rattle.hn_sound.proofs.Names.{HasNoPublisher}
+use Rattle.hn_base.proofs.Keys.{exact_key}
+use Rattle.hn_sound.specs.Sound.{IsGreatestOnLink}
 use Rattle.hn_sound.proofs.SameOrNot.{same_endpoint, cases_node, cases_id, cases_prefix}
 use Rattle.hn_base.proofs.Greatest.{IsGreatestOf, greatest_of}
 use Rattle.hn_sound.proofs.FoundOrNone.{find_one}

@@ -1,21 +1,12 @@
 -- Whether a written-out home is one, and whether each of its pairs is at rest, computed.
-use Rattle.std.proofs.Common.{◌≡◌, ℕ, zero, suc, ◌≤◌, inl, inr, Bool, true, false, ◌&&◌, ◌||◌, Option, Some, None, List, [], ◌∷◌, refl, sym, ap, ◌∙◌, subst, arith}
-use Rattle.std.specs.Prelude.{◌==◌, nat_le, Contains}
-use Rattle.std.specs.List.{list_all, list_any, filter}
-use Rattle.std.proofs.lemmas.Bool.{eqb-true, eq-eqb, leb-true, and_parts, and_from, or_cases}
-use Rattle.hn_base.proofs.Keys.{same_node, same_id}
-use Rattle.hn_base.proofs.AscendingLists.{nothing_in, Contains-head, Contains-cases}
-use Rattle.hn_base.specs.Prefix.{PlainPrefix, IsWithin}
-use Rattle.hn_assign.specs.declared.assigned.Advertised.{Advertised}
-use Rattle.hn_assign.specs.declared.assigned.Assigned.{Assigned}
-use Rattle.hn_assign.specs.declared.assigned.Wish.{Wish}
-use Rattle.hn_sound.specs.AtRest.{EachPair, PairFact, IsAssignmentOf}
-use Rattle.hn_sound.specs.Home.{Home, Endpoint, Held, EndpointHasAssignment, advertised, wish_of}
-use Rattle.hn_sound.specs.Premises.{Premise, Meets, IsHome, IsHomeBut}
-use Rattle.hn_sound.specs.Premises.Premise.{OneLink, OnceOnLink, UsedApart, ForUsed, PublishedInside, OneEach, PriorityTwo}
-use Rattle.hn_base.proofs.Elements.{in_filter, from_filter}
-use Rattle.hn_base.proofs.Prefixes.{is_one_prefix, prefix_decided}
-use Rattle.hn_base.proofs.Elements.{any_of}
+use Rattle.hn_base.proofs.Names.{◌≡◌, ℕ, zero, suc, ◌≤◌, inl, inr, Bool, true, false, Option, Some, None, List, [], ◌∷◌, refl, sym, ap, ◌∙◌, subst, arith, ◌==◌, nat_le, list_all, list_any, eqb-true}
+use Rattle.hn_base.proofs.Names.{eq-eqb, leb-true, and_parts, and_from, or_cases, PlainPrefix, IsWithin}
+use Rattle.hn_sound.proofs.Names.{◌&&◌, ◌||◌, Contains, same_node, same_id, nothing_in, Contains-head, Contains-cases, Advertised, Assigned, Wish, IsAssignmentOf, Home, Endpoint, Held}
+use Rattle.hn_sound.proofs.Names.{EndpointHasAssignment, advertised, wish_of, Meets, IsHome, OneLink, OnceOnLink, UsedApart, ForUsed, PublishedInside, OneEach, PriorityTwo, in_filter, from_filter}
+use Rattle.hn_sound.proofs.Names.{is_one_prefix, prefix_decided, any_of}
+use Rattle.std.specs.List.{filter}
+use Rattle.hn_sound.specs.AtRest.{EachPair, PairFact}
+use Rattle.hn_sound.specs.Premises.{Premise, IsHomeBut}
 use Rattle.hn_sound.proofs.PrefixTests.{implies, then_true, each_passes, is_within, within_from, may_overlap, to_may_overlap}
 
 -- ---- the assignments of a pair

@@ -1,3 +1,4 @@
+mod Names
 pub mod SameOrNot
 pub mod GreatestIsBest
 pub mod HomeTests

@@ -1,22 +1,7 @@
 -- In a home at rest a link has one publisher for a used prefix, whom all its other endpoints follow.
-use Rattle.std.proofs.Common.{◌≡◌, ◌≢◌, ℕ, ◌⊎◌, inl, inr, Option, Some, None, refl, sym, ap, ◌∙◌, subst}
-use Rattle.std.specs.Prelude.{Contains, IsTrue}
-use Rattle.std.specs.declared.cmp.Ordering.{Ordering}
-use Rattle.std.specs.declared.cmp.Ordering.TheVariants.{Less, Equal, Greater}
-use Rattle.std.specs.Ordering.{ordering_then}
-use Rattle.hn_base.specs.declared.key.Key.{Key}
-use Rattle.hn_base.specs.Key.{key_cmp}
-use Rattle.hn_base.proofs.Keys.{key_total}
-use Rattle.hn_base.specs.Prefix.{PlainPrefix}
-use Rattle.hn_assign.specs.declared.assigned.Advertised.{Advertised}
-use Rattle.hn_assign.specs.declared.assigned.Assigned.{Assigned}
-use Rattle.hn_assign.specs.Best.{IsCandidatePrefix, HasNoBest, HasNoFree}
-use Rattle.hn_assign.specs.Rest.{IsAtRest, IsAheadOfBest, IsFollowing}
-use Rattle.hn_sound.specs.AtRest.{IsHomeAtRest, IsAssignmentOf}
-use Rattle.hn_sound.specs.Home.{Home, Endpoint, EndpointHasAssignment, advertised, common_link, wish_of, key_at}
-use Rattle.hn_sound.specs.Premises.{IsHome}
-use Rattle.hn_sound.specs.Premises.Premise.{ForUsed, OneEach}
-use Rattle.hn_sound.specs.Sound.{HasNoPublisher}
+use Rattle.hn_base.proofs.Names.{◌≡◌, ◌≢◌, ℕ, ◌⊎◌, inl, inr, Option, Some, None, refl, sym, ap, ◌∙◌, subst, Less, Equal, Greater, ordering_then, key_cmp, PlainPrefix}
+use Rattle.hn_sound.proofs.Names.{Contains, IsTrue, Ordering, Key, key_total, Advertised, Assigned, IsCandidatePrefix, HasNoBest, HasNoFree, IsAtRest, IsAheadOfBest, IsFollowing, IsHomeAtRest}
+use Rattle.hn_sound.proofs.Names.{IsAssignmentOf, Home, Endpoint, EndpointHasAssignment, advertised, common_link, wish_of, key_at, IsHome, ForUsed, OneEach, HasNoPublisher}
 use Rattle.hn_sound.proofs.SameOrNot.{cases_node}
 use Rattle.hn_sound.proofs.GreatestIsBest.{Published, advert, IsTop, from_candidate, one_endpoint, to_candidate, one_assigned, top_or_none}
 

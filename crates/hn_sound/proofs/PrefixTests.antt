@@ -1,12 +1,8 @@
 -- Tests that compute whether a written-out home is one, and whether it is at rest.
-use Rattle.std.proofs.Common.{◌≡◌, ℕ, ◌/◌, ◌-◌, ◌^◌, inl, inr, Bool, true, false, not, ◌&&◌, ◌||◌, List, sym, ◌∙◌, arith}
-use Rattle.std.specs.Prelude.{◌==◌, nat_le, Contains}
-use Rattle.std.specs.List.{list_all}
-use Rattle.std.proofs.lemmas.Bool.{cases_lt, eqb-true, eq-eqb, leb-true, and_parts, or_left, or_right}
-use Rattle.std.proofs.lemmas.List.Elements.{All-contains}
-use Rattle.std.proofs.lemmas.List.Sums.{AllPass-from_list_all}
+use Rattle.hn_base.proofs.Names.{◌≡◌, ℕ, ◌/◌, ◌-◌, ◌^◌, inl, inr, Bool, true, false, not, List, sym, ◌∙◌, arith, ◌==◌, nat_le, list_all, cases_lt, eqb-true, eq-eqb, leb-true, and_parts, or_left}
+use Rattle.hn_base.proofs.Names.{or_right, All-contains, AllPass-from_list_all, PlainPrefix, IsInside, IsWithin, Overlaps}
+use Rattle.hn_sound.proofs.Names.{◌&&◌, ◌||◌, Contains}
 use Rattle.hn_base.proofs.LeadingBits.{alike_in_shorter}
-use Rattle.hn_base.specs.Prefix.{PlainPrefix, IsInside, IsWithin, Overlaps}
 
 -- ---- words
 

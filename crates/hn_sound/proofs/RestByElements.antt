@@ -1,16 +1,7 @@
 -- Rest is a matter of which elements the lists have.
-use Rattle.std.proofs.Common.{inl, inr, ℕ, List, Option, Some, None}
-use Rattle.std.specs.Prelude.{Contains}
-use Rattle.hn_base.specs.Prefix.{PlainPrefix}
-use Rattle.hn_assign.specs.declared.assigned.Advertised.{Advertised}
-use Rattle.hn_assign.specs.declared.assigned.Assigned.{Assigned}
-use Rattle.hn_assign.specs.declared.assigned.Wish.{Wish}
-use Rattle.hn_assign.specs.Advertised.{LinkEndpoints}
-use Rattle.hn_assign.specs.Best.{IsCandidatePrefix, IsBest, HasNoBest, IsValid, HasNoFree}
-use Rattle.hn_assign.specs.Rest.{IsAtRest, IsIdle}
-use Rattle.hn_sound.specs.AtRest.{IsHomeAtRest}
-use Rattle.hn_sound.specs.Home.{Home, Endpoint, advertised, common_link, wish_of}
-use Rattle.hn_base.specs.Ascending.{HaveSame}
+use Rattle.hn_base.proofs.Names.{inl, inr, ℕ, List, Option, Some, None, PlainPrefix, HaveSame}
+use Rattle.hn_sound.proofs.Names.{Contains, Advertised, Assigned, Wish, LinkEndpoints, IsCandidatePrefix, IsBest, HasNoBest, IsValid, HasNoFree, IsAtRest, IsIdle, IsHomeAtRest, Home, Endpoint}
+use Rattle.hn_sound.proofs.Names.{advertised, common_link, wish_of}
 use Rattle.hn_sound.specs.Members.{IsSeenAtRest}
 use Rattle.hn_sound.proofs.AdvertisedAndLinks.{to_advertised, from_advertised, to_common_link, from_common_link}
 

@@ -1,24 +1,9 @@
 -- In a home at rest what is published on different links does not overlap; and so a home at rest is sound.
-use Rattle.std.proofs.Common.{◌≡◌, ◌≢◌, ℕ, ◌<◌, ◌≤◌, inl, inr, Some, None, refl, sym, ap, ◌∙◌, subst, arith}
-use Rattle.std.specs.Prelude.{Contains}
-use Rattle.std.specs.declared.cmp.Ordering.{Ordering}
-use Rattle.std.specs.declared.cmp.Ordering.TheVariants.{Less, Equal, Greater}
-use Rattle.std.specs.Ordering.{nat_cmp, ordering_then}
-use Rattle.std.proofs.lemmas.Bool.{cases_lt, lt-ltb, cond-true}
-use Rattle.hn_base.specs.declared.ids.EpId.{EpId}
-use Rattle.hn_base.specs.declared.key.Key.{Key}
-use Rattle.hn_base.specs.Key.{key_cmp, IsAbove}
-use Rattle.hn_base.proofs.Keys.{key_total}
-use Rattle.hn_base.specs.Prefix.{PlainPrefix, IsWithin, Overlaps}
-use Rattle.hn_assign.specs.declared.assigned.Assigned.{Assigned}
-use Rattle.hn_assign.specs.Advertised.{key_of, IsAdvertisedOnLink}
-use Rattle.hn_assign.specs.Best.{IsValid}
-use Rattle.hn_assign.specs.Rest.{IsAtRest}
-use Rattle.hn_sound.specs.AtRest.{IsHomeAtRest}
-use Rattle.hn_sound.specs.Home.{Home, Endpoint, EndpointHasAssignment, advertised, common_link, wish_of, key_at}
-use Rattle.hn_sound.specs.Premises.{IsHome}
-use Rattle.hn_sound.specs.Premises.Premise.{OneLink, ForUsed, PublishedInside, OneEach, PriorityTwo}
-use Rattle.hn_sound.specs.Sound.{HasNoPublisher, IsLinkServed, IsLinkWithout, IsSoundHome}
+use Rattle.hn_base.proofs.Names.{◌≡◌, ◌≢◌, ℕ, ◌<◌, ◌≤◌, inl, inr, Some, None, refl, sym, ap, ◌∙◌, subst, arith, Less, Equal, Greater, nat_cmp, ordering_then, cases_lt, lt-ltb, cond-true, key_cmp}
+use Rattle.hn_base.proofs.Names.{IsAbove, PlainPrefix, IsWithin, Overlaps}
+use Rattle.hn_sound.proofs.Names.{Contains, Ordering, EpId, Key, key_total, Assigned, key_of, IsAdvertisedOnLink, IsValid, IsAtRest, IsHomeAtRest, Home, Endpoint, EndpointHasAssignment, advertised}
+use Rattle.hn_sound.proofs.Names.{common_link, wish_of, key_at, IsHome, OneLink, ForUsed, PublishedInside, OneEach, PriorityTwo, HasNoPublisher, IsLinkServed, IsSoundHome}
+use Rattle.hn_sound.specs.Sound.{IsLinkWithout}
 use Rattle.hn_sound.proofs.GreatestIsBest.{Published, advert, is_advertised, key_tells, top_or_none}
 use Rattle.hn_sound.proofs.OnePublisher.{assignment_rests, one_publisher, not_beside_best, every_follows, none_without_publisher}
 use Rattle.hn_sound.proofs.AdvertisedAndLinks.{from_common_link}

@@ -1,26 +1,13 @@
 -- Whether a pair is at rest, computed.
-use Rattle.std.proofs.Common.{◌≡◌, ℕ, inl, inr, Bool, true, false, not, ◌&&◌, ◌||◌, Option, Some, None, List, refl, ap, subst}
-use Rattle.std.specs.Prelude.{◌==◌, is_some, is_none, Contains}
-use Rattle.std.specs.List.{list_all, list_any}
-use Rattle.std.specs.Ordering.{is_lt}
-use Rattle.std.specs.declared.cmp.Ordering.{Ordering}
-use Rattle.std.specs.declared.cmp.Ordering.TheVariants.{Less, Equal, Greater}
-use Rattle.std.proofs.lemmas.Bool.{eqb-true, eq-eqb, and_parts, and_from, or_cases, not-true, not_from_false, ne_eqb, eqb-false}
-use Rattle.hn_base.specs.declared.ids.NodeId.{NodeId}
-use Rattle.hn_base.specs.declared.ids.EpId.{EpId}
-use Rattle.hn_base.specs.Key.{key_cmp, IsAbove}
-use Rattle.hn_base.proofs.Keys.{same_node, same_id}
-use Rattle.hn_base.specs.Prefix.{PlainPrefix}
-use Rattle.hn_assign.specs.declared.assigned.Advertised.{Advertised}
-use Rattle.hn_assign.specs.declared.assigned.Assigned.{Assigned}
-use Rattle.hn_assign.specs.declared.assigned.Wish.{Wish}
-use Rattle.hn_assign.specs.Advertised.{LinkEndpoints, key_of, IsAdvertisedOnLink, advertised_cmp}
-use Rattle.hn_assign.specs.Best.{IsCandidatePrefix, IsBest, HasNoBest, IsValid, HasNoFree}
-use Rattle.hn_assign.specs.Rest.{IsAtRest, IsIdle, IsAlone, IsAheadOfBest, IsFollowing}
+use Rattle.hn_base.proofs.Names.{◌≡◌, ℕ, inl, inr, Bool, true, false, not, Option, Some, None, List, refl, ap, subst, ◌==◌, is_none, list_all, list_any, is_lt, Less, Equal, Greater, eqb-true, eq-eqb}
+use Rattle.hn_base.proofs.Names.{and_parts, and_from, or_cases, not-true, not_from_false, ne_eqb, eqb-false, key_cmp, IsAbove, PlainPrefix}
+use Rattle.hn_sound.proofs.Names.{◌&&◌, ◌||◌, Contains, Ordering, NodeId, EpId, same_node, same_id, Advertised, Assigned, Wish, LinkEndpoints, key_of, IsAdvertisedOnLink, advertised_cmp}
+use Rattle.hn_sound.proofs.Names.{IsCandidatePrefix, IsBest, HasNoBest, IsValid, HasNoFree, IsAtRest, IsIdle, IsAheadOfBest, IsFollowing, NothingToDo, Published, Valid, GreaterKey, Unpublished}
+use Rattle.hn_sound.proofs.Names.{BestPrefix, is_one_prefix, prefix_decided, any_of}
+use Rattle.std.specs.Prelude.{is_some}
+use Rattle.hn_assign.specs.Rest.{IsAlone}
 use Rattle.hn_sound.specs.Conditions.{Condition, MeetsRest, IsAtRestBut}
-use Rattle.hn_sound.specs.Conditions.Condition.{NothingToDo, Published, Valid, GreaterKey, Unpublished, BestPrefix}
-use Rattle.hn_base.proofs.Prefixes.{is_one_prefix, prefix_decided}
-use Rattle.hn_base.proofs.Elements.{any_of, any_from}
+use Rattle.hn_base.proofs.Elements.{any_from}
 use Rattle.hn_sound.proofs.PrefixTests.{implies, then_true, each_passes, begins_with, to_begins_with, is_within, within_from, may_overlap, to_may_overlap}
 use Rattle.hn_base.proofs.DecidingTests.{from_is_none}
 

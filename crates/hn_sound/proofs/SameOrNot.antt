@@ -1,15 +1,6 @@
 -- Endpoints, prefixes and keys are known by their fields, and so it can be told whether two are one.
-use Rattle.std.proofs.Common.{◌≡◌, ◌⊎◌, inl, inr, ap, subst}
-use Rattle.std.specs.declared.cmp.Ordering.TheVariants.{Equal}
-use Rattle.std.proofs.lemmas.Bool.{cases_eq}
-use Rattle.std.proofs.lemmas.Cmp.{tied_itself}
-use Rattle.hn_base.specs.declared.key.Key.{Key}
-use Rattle.hn_base.specs.declared.ids.NodeId.{NodeId}
-use Rattle.hn_base.specs.declared.ids.EpId.{EpId}
-use Rattle.hn_base.specs.Key.{key_cmp}
-use Rattle.hn_base.proofs.Keys.{same_node, same_id, key_total}
-use Rattle.hn_base.specs.Prefix.{PlainPrefix}
-use Rattle.hn_sound.specs.Home.{Endpoint}
+use Rattle.hn_base.proofs.Names.{◌≡◌, ◌⊎◌, inl, inr, ap, subst, Equal, cases_eq, tied_itself, key_cmp, PlainPrefix}
+use Rattle.hn_sound.proofs.Names.{Key, NodeId, EpId, same_node, same_id, key_total, Endpoint}
 use Rattle.hn_base.proofs.Prefixes.{same_prefix}
 
 pub same_endpoint : (e f : Endpoint) → e.node ≡ f.node → e.id ≡ f.id → e.link ≡ f.link → e ≡ f

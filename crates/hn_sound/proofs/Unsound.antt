@@ -1,11 +1,6 @@
 -- What a sound home cannot have.
-use Rattle.std.proofs.Common.{◌≡◌, ℕ, inl, inr, refl, sym, ◌∙◌}
-use Rattle.std.specs.Prelude.{Contains, IsTrue}
-use Rattle.hn_base.specs.Prefix.{PlainPrefix}
-use Rattle.hn_assign.specs.declared.assigned.Assigned.{Assigned}
-use Rattle.hn_assign.specs.Best.{IsFreeIn}
-use Rattle.hn_sound.specs.Home.{Home, Endpoint, EndpointHasAssignment, HasPublished, advertised}
-use Rattle.hn_sound.specs.Sound.{IsSoundHome, IsLinkServed, HasNoPublisher}
+use Rattle.hn_base.proofs.Names.{◌≡◌, ℕ, inl, inr, refl, sym, ◌∙◌, PlainPrefix}
+use Rattle.hn_sound.proofs.Names.{Contains, IsTrue, Assigned, IsFreeIn, Home, Endpoint, EndpointHasAssignment, HasPublished, advertised, IsSoundHome, IsLinkServed, HasNoPublisher}
 
 module _ (home : Home) (is_sound : IsSoundHome home) (d : PlainPrefix) (used : Contains home.used d) where
   -- where an endpoint has an assignment, its link is served

@@ -1,12 +1,6 @@
 -- What written-out homes have, and why they are not sound.
-use Rattle.std.proofs.Common.{◌≡◌, ℕ, Option, Some, [], refl, ap, subst, arith}
-use Rattle.std.specs.Prelude.{Contains}
-use Rattle.hn_base.proofs.AscendingLists.{nothing_in}
-use Rattle.hn_base.specs.Prefix.{PlainPrefix, Overlaps}
-use Rattle.hn_assign.specs.declared.assigned.Assigned.{Assigned}
-use Rattle.hn_sound.specs.Home.{Home, Endpoint, EndpointHasAssignment, HasPublished}
-use Rattle.hn_sound.specs.Homes.{first, second}
-use Rattle.hn_sound.specs.Written.{subnet, has}
+use Rattle.hn_base.proofs.Names.{◌≡◌, ℕ, Option, Some, [], refl, ap, subst, arith, PlainPrefix, Overlaps}
+use Rattle.hn_sound.proofs.Names.{Contains, nothing_in, Assigned, Home, Endpoint, EndpointHasAssignment, HasPublished, first, second, subnet, has}
 use Rattle.hn_sound.proofs.HomeTests.{assignments_of, to_assignments_of}
 
 module _ (home : Home) (e : Endpoint) (d prefix : PlainPrefix) (there : Contains home.endpoints e) where

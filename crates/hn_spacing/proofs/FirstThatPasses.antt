@@ -1,12 +1,9 @@
 -- The first element of a list that passes a test, where others are left out, or one is put in a place.
-use Rattle.std.proofs.Common.{◌≡◌, ◌∙◌, ℕ, Bool, true, false, not, List, [], ◌∷◌, ◌++◌, filter, Option, None, Some, refl, sym, ap, inl, inr, slice_get}
-use Rattle.std.specs.Prelude.{find, position, if◌then◌else◌}
-use Rattle.std.specs.List.{slice_set}
-use Rattle.std.specs.Option.{option_or}
-use Rattle.std.proofs.lemmas.Bool.{cases_Bool}
-use Rattle.std.proofs.lemmas.List.Folds.{find_at, find-set, find_past, find-append}
-use Rattle.std.proofs.lemmas.List.Quantifiers.{position-Some}
-use Rattle.std.proofs.lemmas.Option.{get_or_from_slice_get, cond_some}
+use Rattle.hn_base.proofs.Names.{◌≡◌, ◌∙◌, ℕ, Bool, true, false, not, List, [], ◌∷◌, ◌++◌, filter, Option, None, Some, refl, sym, ap, inl, inr, slice_get, find, if◌then◌else◌, option_or, cases_Bool}
+use Rattle.hn_base.proofs.Names.{find_at, position-Some, get_or_from_slice_get}
+use Rattle.hn_spacing.proofs.Names.{position, slice_set}
+use Rattle.std.proofs.lemmas.List.Folds.{find-set, find_past, find-append}
+use Rattle.std.proofs.lemmas.Option.{cond_some}
 
 or_none : {X : Type 0} (o : Option X) → option_or o None ≡ o
 or_none None = refl

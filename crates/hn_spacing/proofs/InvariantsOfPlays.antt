@@ -1,12 +1,7 @@
 -- What holds at a stage of a play and stays so, whatever goes on.
-use Rattle.std.proofs.Common.{◌≡◌, ℕ, List}
-use Rattle.hn_base.specs.declared.ids.EpId.{EpId}
-use Rattle.hn_base.specs.declared.name.Name.{Name}
-use Rattle.hn_script.specs.declared.line.Line.{Line}
+use Rattle.hn_base.proofs.Names.{◌≡◌, ℕ, List}
+use Rattle.hn_spacing.proofs.Names.{EpId, Name, Line, Turns, Solicits, starting, ending, ending_all, Stage, TellsLines}
 use Rattle.hn_script.specs.declared.line.Line.TheVariants as line
-use Rattle.hn_lab.specs.Sending.{Turns, Solicits, starting, ending, ending_all}
-use Rattle.hn_lab.specs.Stage.{Stage}
-use Rattle.hn_lab.specs.Tells.{TellsLines}
 use Rattle.hn_spacing.proofs.KeptByProcesses.{Keeps}
 use Rattle.hn_spacing.proofs.NoRaLines.{AreNoRaLines}
 

@@ -1,28 +1,21 @@
 -- Events, deliveries, a flow, a run, choices and an exchange keep what stays over turns and other lines.
-use Rattle.std.proofs.Common.{◌<◌, inl, inr, ℕ, suc, Bool, true, false, List, Option, None, Some, refl, sym, ap, subst}
-use Rattle.std.specs.Prelude.{◌+◌, ◌||◌, ◌==◌, if◌then◌else◌, min}
-use Rattle.hn_base.specs.declared.name.Name.{Name}
-use Rattle.hn_rules.specs.declared.done.Note.{Note}
+use Rattle.hn_base.proofs.Names.{◌<◌, inl, inr, ℕ, suc, Bool, true, false, List, Option, None, Some, refl, sym, ap, subst, ◌||◌, ◌==◌, if◌then◌else◌}
+use Rattle.hn_spacing.proofs.Names.{Name, Note, Line, WEvent, Refused, WireFailed, Cut, EventNotes, EventEnds, DeliveryEnds, Unless, ThenProcess, EachProcess, Turns, Stage, TellsLines}
+use Rattle.std.specs.Prelude.{◌+◌, min}
 use Rattle.hn_rules.specs.declared.state.State.{State}
-use Rattle.hn_script.specs.declared.line.Line.{Line}
 use Rattle.hn_sync.specs.Exchange.{unless_exchange}
 use Rattle.hn_world.specs.declared.copies.MailCopy.{MailCopy}
-use Rattle.hn_world.specs.declared.event.WEvent.{WEvent}
 use Rattle.hn_world.specs.declared.event.WEvent.TheVariants as event
 use Rattle.hn_world.specs.Asked.{unless_runs}
 use Rattle.hn_world.specs.Receivers.{is_away, running_names}
 use Rattle.hn_world.specs.Refusal.{refusal}
 use Rattle.hn_lab.specs.declared.carrying.Carried.{Carried}
 use Rattle.hn_lab.specs.declared.carrying.Carried.TheVariants.{Same, Lost, Other}
-use Rattle.hn_lab.specs.declared.end.Stop.TheVariants.{Refused, WireFailed, Cut}
 use Rattle.hn_lab.specs.Choosing.{MayHappen, MakesChoice, Chooses}
-use Rattle.hn_lab.specs.Delivery.{EventNotes, EventEnds, injection_for, Replaces, ComesTo, Conveys, DeliveryEnds}
+use Rattle.hn_lab.specs.Delivery.{injection_for, Replaces, ComesTo, Conveys}
 use Rattle.hn_lab.specs.Events.{TreatmentEnds, CopyEnds, HasWaiting, Flow, Ticks, Passes, Round, Runs, drawn, is_lost}
-use Rattle.hn_lab.specs.Process.{Unless, ThenProcess, EachProcess}
-use Rattle.hn_lab.specs.Sending.{Turns, TickEnds}
-use Rattle.hn_lab.specs.Stage.{Stage}
+use Rattle.hn_lab.specs.Sending.{TickEnds}
 use Rattle.hn_lab.specs.Syncing.{Exchanges, SyncEnds}
-use Rattle.hn_lab.specs.Tells.{TellsLines}
 use Rattle.hn_spacing.proofs.InvariantsOfPlays.{IsInvariant}
 use Rattle.hn_spacing.proofs.KeptByProcesses.{Keeps, keeps_at, keeps_nothing, keeps_unless, keeps_then, keeps_each, keeps_until}
 use Rattle.hn_spacing.proofs.NoRaLines.{AreNoRaLines}

@@ -1,34 +1,24 @@
 -- The lines of a script keep what stays over turns and other lines, and so does a play.
-use Rattle.std.proofs.Common.{◌≡◌, ◌∙◌, inl, inr, ℕ, false, List, [], ◌∷◌, ◌++◌, Option, None, Some, refl, sym, ap, subst}
-use Rattle.std.specs.List.{AllByRecursion}
+use Rattle.hn_base.proofs.Names.{◌≡◌, ◌∙◌, inl, inr, ℕ, false, List, [], ◌∷◌, ◌++◌, Option, None, Some, refl, sym, ap, subst, AllByRecursion}
+use Rattle.hn_spacing.proofs.Names.{Name, Note, Line, WEvent, Parts, Stop, Refused, WireFailed, Cut, EventNotes, EventEnds, DeliveryEnds, LinesDone, StopsAt, Unless, ThenProcess, Solicits, starting}
+use Rattle.hn_spacing.proofs.Names.{ending, ending_all, Stage, TellsLines}
 use Rattle.hn_addr.specs.Addresses.{IsChoice}
-use Rattle.hn_base.specs.declared.name.Name.{Name}
-use Rattle.hn_rules.specs.declared.done.Note.{Note}
-use Rattle.hn_script.specs.declared.line.Line.{Line}
 use Rattle.hn_script.specs.declared.line.Line.TheVariants as line
 use Rattle.hn_ula.specs.Ula.{Decides}
-use Rattle.hn_world.specs.declared.event.WEvent.{WEvent}
 use Rattle.hn_world.specs.declared.event.WEvent.TheVariants as event
 use Rattle.hn_world.specs.declared.member.Member.{Member}
-use Rattle.hn_world.specs.declared.parts.Parts.{Parts}
-use Rattle.hn_lab.specs.declared.end.Stop.{Stop}
-use Rattle.hn_lab.specs.declared.end.Stop.TheVariants.{Refused, WireFailed, Cut}
 use Rattle.hn_lab.specs.declared.report.About.{About}
 use Rattle.hn_lab.specs.declared.report.About.TheVariants as about
 use Rattle.hn_lab.specs.declared.report.Report.{Report}
 use Rattle.hn_lab.specs.declared.report.Report.TheVariants as report
 use Rattle.hn_lab.specs.AddressReports.{address_line}
 use Rattle.hn_lab.specs.Choosing.{chosen_event, decided_event}
-use Rattle.hn_lab.specs.Delivery.{EventNotes, EventEnds, DeliveryEnds}
 use Rattle.hn_lab.specs.Line.{Noted, Delivered, Sets, OtherEnds, Follows, EndsAs, EndsBy, LineEnds, event_of, report_of, receiver, injection, seeded}
-use Rattle.hn_lab.specs.Play.{LineSaid, LinesDone, StopsAt}
+use Rattle.hn_lab.specs.Play.{LineSaid}
 use Rattle.hn_lab.specs.PrefixReports.{use_line, prefix_line}
-use Rattle.hn_lab.specs.Process.{Unless, ThenProcess}
 use Rattle.hn_lab.specs.Report.{IsAbout, IsReport, ReportEnds, unless_report, unless_elects}
 use Rattle.hn_lab.specs.Reports.{note_line, refused_line}
-use Rattle.hn_lab.specs.Sending.{Solicits, starting, ending, ending_all}
-use Rattle.hn_lab.specs.Stage.{Stage}
-use Rattle.hn_lab.specs.Tells.{TellsLines, TellsSome, Reports, note_lines}
+use Rattle.hn_lab.specs.Tells.{TellsSome, Reports, note_lines}
 use Rattle.hn_lab.specs.UlaReports.{ula_line}
 use Rattle.hn_spacing.proofs.InvariantsOfPlays.{IsInvariant}
 use Rattle.hn_spacing.proofs.KeptByProcesses.{Keeps, keeps_at, keeps_nothing, keeps_unless, keeps_then}

@@ -1,9 +1,7 @@
 -- What is so before a process and stays so, whatever its end.
-use Rattle.std.proofs.Common.{inl, inr, ℕ, zero, suc, List, [], ◌∷◌, Option, None, Some, sym, subst}
-use Rattle.hn_lab.specs.declared.end.Stop.{Stop}
-use Rattle.hn_lab.specs.declared.end.Stop.TheVariants.{Refused, WireFailed, Cut}
-use Rattle.hn_lab.specs.Process.{Process, Nothing, Unless, ThenProcess, EachProcess, Times, Until}
-use Rattle.hn_lab.specs.Stage.{Stage}
+use Rattle.hn_base.proofs.Names.{inl, inr, ℕ, zero, suc, List, [], ◌∷◌, Option, None, Some, sym, subst}
+use Rattle.hn_spacing.proofs.Names.{Stop, Refused, WireFailed, Cut, Nothing, Unless, ThenProcess, EachProcess, Stage}
+use Rattle.hn_lab.specs.Process.{Process, Times, Until}
 
 module _ (Holds : Stage → Type 0) where
   abbrev pub Keeps : Process → Type 0

@@ -1,25 +1,15 @@
 -- What is so of the sender of an endpoint and of the text of a play, and stays so over turns and changes of senders.
-use Rattle.std.proofs.Common.{◌≡◌, ◌∙◌, ◌^◌, ◌<◌, ◌≤◌, ℕ, Bool, true, false, List, [], ◌∷◌, ◌++◌, append_assoc, append-nil}
-use Rattle.std.proofs.Common.{Option, None, Some, sym, ap, subst, inl, inr}
-use Rattle.std.specs.Prelude.{if◌then◌else◌}
-use Rattle.std.proofs.lemmas.Bool.{cases_Bool, both_ways, leb-true}
+use Rattle.hn_base.proofs.Names.{◌≡◌, ◌∙◌, ◌^◌, ◌<◌, ◌≤◌, ℕ, Bool, true, false, List, [], ◌∷◌, ◌++◌, append_assoc, Option, None, Some, sym, ap, subst, inl, inr, if◌then◌else◌, cases_Bool, both_ways}
+use Rattle.hn_base.proofs.Names.{leb-true}
+use Rattle.hn_spacing.proofs.Names.{append-nil, EpId, Name, PlainSender, solicited, sent, Parts, Stop, Refused, WireFailed, Cut, Sending, Shape, Nothing, EachProcess, sends_at, IsSenderAt, ra_line}
+use Rattle.hn_spacing.proofs.Names.{Turns, Solicits, starting, Stage, TellsLines, Told, IsRaOf, BeginsSending}
 use Rattle.hn_advert.specs.Advert.{advert_bytes}
-use Rattle.hn_base.specs.declared.ids.EpId.{EpId}
-use Rattle.hn_base.specs.declared.name.Name.{Name}
-use Rattle.hn_radv.specs.Sender.{PlainSender, started_sender, solicited, sent}
+use Rattle.hn_radv.specs.Sender.{started_sender}
 use Rattle.hn_script.specs.declared.line.Line.TheVariants as line
-use Rattle.hn_world.specs.declared.parts.Parts.{Parts}
-use Rattle.hn_lab.specs.declared.end.Stop.{Stop}
-use Rattle.hn_lab.specs.declared.end.Stop.TheVariants.{Refused, WireFailed, Cut}
-use Rattle.hn_lab.specs.declared.senders.Sending.{Sending}
-use Rattle.hn_lab.specs.declared.senders.Shape.{Shape}
-use Rattle.hn_lab.specs.Process.{Nothing, EachProcess}
-use Rattle.hn_lab.specs.Senders.{sends_at, sender_endpoints, IsSenderAt}
-use Rattle.hn_lab.specs.Sending.{ra_line, IsAsked, IsDue, IsTurn, MayTurn, TurnEnds, Turns, Solicits, IsSolicited, line_if, sending_now, starting}
-use Rattle.hn_lab.specs.Stage.{Stage, telling}
-use Rattle.hn_lab.specs.Tells.{TellsLines}
-use Rattle.hn_lab.specs.Told.{Told, told}
-use Rattle.hn_spacing.specs.Spacing.{IsRaOf, BeginsSending}
+use Rattle.hn_lab.specs.Senders.{sender_endpoints}
+use Rattle.hn_lab.specs.Sending.{IsAsked, IsDue, IsTurn, MayTurn, TurnEnds, IsSolicited, line_if, sending_now}
+use Rattle.hn_lab.specs.Stage.{telling}
+use Rattle.hn_lab.specs.Told.{told}
 use Rattle.hn_spacing.proofs.KeptByProcesses.{Keeps, keeps_at, keeps_nothing, keeps_then, keeps_each}
 use Rattle.hn_spacing.proofs.InvariantsOfPlays.{IsInvariant}
 use Rattle.hn_spacing.proofs.NoRaLines.{AreOther, others_of_kind}

@@ -1,3 +1,4 @@
+mod Names
 pub mod RaLineTells
 pub mod FirstThatPasses
 pub mod KeptByProcesses

@@ -1,12 +1,7 @@
 -- Lines of text that are no `ra` lines: they begin with other bytes.
-use Rattle.std.proofs.Common.{◌≡◌, ◌≢◌, ℕ, Bool, false, List, [], ◌∷◌, map, ap}
-use Rattle.std.specs.Prelude.{◌==◌, ◌&&◌}
-use Rattle.std.specs.List.{AllByRecursion}
-use Rattle.std.proofs.lemmas.Bool.{both_ways}
-use Rattle.hn_base.specs.declared.ids.EpId.{EpId}
-use Rattle.hn_base.specs.declared.name.Name.{Name}
+use Rattle.hn_base.proofs.Names.{◌≡◌, ◌≢◌, ℕ, Bool, false, List, [], ◌∷◌, map, ap, ◌==◌, ◌&&◌, AllByRecursion, both_ways}
+use Rattle.hn_spacing.proofs.Names.{EpId, Name, ra_line}
 use Rattle.hn_base.proofs.EachByRecursion.{AllByRecursion-weaker}
-use Rattle.hn_lab.specs.Sending.{ra_line}
 
 -- whether a line begins with `ra `
 abbrev pub begins_ra : List ℕ → Bool

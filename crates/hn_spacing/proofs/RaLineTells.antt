@@ -1,22 +1,12 @@
 -- What the line on a Router Advertisement tells: its router and its endpoint.
-use Rattle.std.proofs.Common.{◌≡◌, ◌∙◌, ℕ, zero, suc, ◌+◌, ◌*◌, ◌/◌, ◌%◌, ◌^◌, ◌<◌, ◌≤◌, Bool, true, false, List, [], ◌∷◌, ◌++◌, append_assoc}
-use Rattle.std.proofs.Common.{length, refl, sym, ap, inl, inr, lit<, arith}
-use Rattle.std.specs.Prelude.{◌==◌, if◌then◌else◌}
-use Rattle.std.specs.Fmt.{decimal, digits, digits_onto, digit_glyph}
-use Rattle.std.specs.List.{list_all}
-use Rattle.std.specs.Str.Parse.{digits_value}
-use Rattle.std.proofs.Math.Nat.{pow-suc, pow-le-pow_right, le-div_iff_mul-le}
-use Rattle.std.proofs.lemmas.Bool.{ne_eqb, lt-ltb, cases_lt, and_parts}
-use Rattle.std.proofs.lemmas.Fmt.{decimal_is_IsNumeral_wide, length-decimal-le}
-use Rattle.std.proofs.lemmas.Nat.{mod_below}
-use Rattle.hn_base.specs.HexText.{hex_text}
-use Rattle.hn_base.specs.Name.{name_text}
-use Rattle.hn_base.specs.NameText.{is_name_byte}
-use Rattle.hn_base.specs.Splits.{Lacks}
-use Rattle.hn_base.specs.declared.ids.EpId.{EpId}
-use Rattle.hn_base.specs.declared.name.Name.{Name}
+use Rattle.hn_base.proofs.Names.{◌≡◌, ◌∙◌, ℕ, zero, suc, ◌+◌, ◌*◌, ◌/◌, ◌%◌, ◌^◌, ◌<◌, ◌≤◌, Bool, true, false, List, [], ◌∷◌, ◌++◌, append_assoc, length, refl, sym, ap, inl, inr, lit<, arith, ◌==◌}
+use Rattle.hn_base.proofs.Names.{if◌then◌else◌, decimal, digits_onto, digit_glyph, list_all, digits_value, pow-suc, pow-le-pow_right, ne_eqb, lt-ltb, cases_lt, and_parts, length-decimal-le, mod_below}
+use Rattle.hn_base.proofs.Names.{hex_text, name_text, is_name_byte, Lacks}
+use Rattle.hn_spacing.proofs.Names.{EpId, Name, ra_line}
+use Rattle.std.specs.Fmt.{digits}
+use Rattle.std.proofs.Math.Nat.{le-div_iff_mul-le}
+use Rattle.std.proofs.lemmas.Fmt.{decimal_is_IsNumeral_wide}
 use Rattle.hn_base.proofs.SplitLemmas.{same_split}
-use Rattle.hn_lab.specs.Sending.{ra_line}
 
 -- ---- names and numbers have no space
 

@@ -1,20 +1,10 @@
 -- The sender of an endpoint, where senders are changed, added and left out.
-use Rattle.std.proofs.Common.{◌≡◌, ◌∙◌, ℕ, Bool, true, false, not, List, filter, Option, None, Some, refl, sym, ap, inl, inr}
-use Rattle.std.specs.Prelude.{◌==◌, ◌&&◌, if◌then◌else◌, find, position, nat_le, nat_lt}
-use Rattle.std.specs.List.{slice_set}
-use Rattle.std.specs.Option.{option_map}
-use Rattle.std.specs.Str.{bytes_eq}
-use Rattle.std.proofs.lemmas.Bool.{cases_Bool, both_ways, not-false, and_parts, and_from, eqb-true, eq-eqb, leb-true, leb-false, lt-ltb, le-ltb}
-use Rattle.std.proofs.lemmas.List.Quantifiers.{position-Some}
-use Rattle.std.proofs.lemmas.Option.{get_or_from_slice_get}
-use Rattle.std.proofs.lemmas.Slice.Eq.{bytes_eq-Decides}
-use Rattle.hn_base.specs.Name.{name_text}
-use Rattle.hn_base.specs.declared.ids.EpId.{EpId}
-use Rattle.hn_base.specs.declared.name.Name.{Name}
-use Rattle.hn_radv.specs.Sender.{PlainSender}
-use Rattle.hn_lab.specs.declared.senders.Sending.{Sending}
-use Rattle.hn_lab.specs.declared.senders.Shape.{Shape}
-use Rattle.hn_lab.specs.Senders.{sender_number, is_sender_of, sends_at, IsSenderAt, without_sender, without_senders, with_sender}
+use Rattle.hn_base.proofs.Names.{◌≡◌, ◌∙◌, ℕ, Bool, true, false, not, List, filter, Option, None, Some, refl, sym, ap, inl, inr, ◌==◌, ◌&&◌, if◌then◌else◌, find, nat_le, option_map, bytes_eq}
+use Rattle.hn_base.proofs.Names.{cases_Bool, both_ways, not-false, and_parts, and_from, eqb-true, eq-eqb, leb-true, leb-false, lt-ltb, le-ltb, position-Some, get_or_from_slice_get, bytes_eq-Decides}
+use Rattle.hn_base.proofs.Names.{name_text}
+use Rattle.hn_spacing.proofs.Names.{position, slice_set, EpId, Name, PlainSender, Sending, Shape, sends_at, IsSenderAt}
+use Rattle.std.specs.Prelude.{nat_lt}
+use Rattle.hn_lab.specs.Senders.{sender_number, is_sender_of, without_sender, without_senders, with_sender}
 use Rattle.hn_spacing.proofs.FirstThatPasses.{find-filter, find-write_failing, find-first, find-write_first, find-placed, find-placed_first}
 
 -- the sender of an endpoint, if it sends

@@ -1,17 +1,10 @@
 -- In a play the `ra` lines of a sender are spaced.
-use Rattle.std.proofs.Common.{ℕ, ◌^◌, ◌<◌, List, [], ◌∷◌}
-use Rattle.std.specs.Prelude.{⊤}
-use Rattle.std.specs.List.{AllByRecursion}
-use Rattle.std.proofs.lemmas.List.Elements.{recursion_from_All}
-use Rattle.hn_base.specs.declared.ids.EpId.{EpId}
-use Rattle.hn_base.specs.declared.name.Name.{Name}
+use Rattle.hn_base.proofs.Names.{ℕ, ◌^◌, ◌<◌, List, [], ◌∷◌, ⊤, AllByRecursion, recursion_from_All}
+use Rattle.hn_spacing.proofs.Names.{EpId, Name, Line, Stop, LinesDone, StopsAt, Stage, Told, BeginsSending}
 use Rattle.hn_base.specs.declared.version.Version.{Version}
-use Rattle.hn_script.specs.declared.line.Line.{Line}
-use Rattle.hn_lab.specs.declared.end.Stop.{Stop}
-use Rattle.hn_lab.specs.Play.{begun, LinesDone, StopsAt}
-use Rattle.hn_lab.specs.Stage.{Stage, Route}
-use Rattle.hn_lab.specs.Told.{Told}
-use Rattle.hn_spacing.specs.Spacing.{BeginsSending, NoneBeginsSending, AreRasSpacedSince, RaLinesAreSpaced}
+use Rattle.hn_lab.specs.Play.{begun}
+use Rattle.hn_lab.specs.Stage.{Route}
+use Rattle.hn_spacing.specs.Spacing.{NoneBeginsSending, AreRasSpacedSince, RaLinesAreSpaced}
 use Rattle.hn_spacing.proofs.InvariantsOfPlays.{IsInvariant}
 use Rattle.hn_spacing.proofs.KeptByLines.{keeps_done, keeps_stopped}
 use Rattle.hn_spacing.proofs.KeptBySenders.{Holds, invariant}

@@ -1,15 +1,11 @@
 -- A sender is kept spaced, and so are its `ra` lines since a stage.
-use Rattle.std.proofs.Common.{◌≡◌, ◌∙◌, ◌+◌, ◌%◌, ◌^◌, ◌<◌, ◌≤◌, ℕ, Bool, true, false, List, [], ◌∷◌, ◌++◌, append_assoc, append-nil}
-use Rattle.std.proofs.Common.{get_or, Option, None, Some, sym, ap, arith}
-use Rattle.std.specs.Prelude.{⊤, IfSome, if◌then◌else◌}
+use Rattle.hn_base.proofs.Names.{◌≡◌, ◌∙◌, ◌+◌, ◌%◌, ◌^◌, ◌<◌, ◌≤◌, ℕ, Bool, true, false, List, [], ◌∷◌, ◌++◌, append_assoc, get_or, Option, None, Some, sym, ap, arith, ⊤, if◌then◌else◌, All-push}
+use Rattle.hn_base.proofs.Names.{All-weaker, all_pairs_push}
+use Rattle.hn_spacing.proofs.Names.{append-nil, EpId, Name, PlainSender, solicited, sent, Told, IsRaOf}
+use Rattle.std.specs.Prelude.{IfSome}
 use Rattle.std.specs.List.{All}
-use Rattle.std.proofs.lemmas.List.Elements.{All-push, All-weaker}
-use Rattle.std.proofs.lemmas.List.Quantifiers.{all_pairs_push}
-use Rattle.hn_base.specs.declared.ids.EpId.{EpId}
-use Rattle.hn_base.specs.declared.name.Name.{Name}
-use Rattle.hn_radv.specs.Sender.{PlainSender, solicited, draws, sent}
-use Rattle.hn_lab.specs.Told.{Told}
-use Rattle.hn_spacing.specs.Spacing.{IsRaOf, AreRasApart, AreRasSpaced}
+use Rattle.hn_radv.specs.Sender.{draws}
+use Rattle.hn_spacing.specs.Spacing.{AreRasApart, AreRasSpaced}
 use Rattle.hn_spacing.proofs.KeptBySenders.{IsKept, IsNoRaOf, IsOnlyOf}
 
 -- ---- a sender

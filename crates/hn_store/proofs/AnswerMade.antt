@@ -1,20 +1,11 @@
 -- An answer to each node state: the condition of each line holds, or it does not.
-use Rattle.std.proofs.Common.{◌≡◌, ◌<◌, ◌≤◌, ◌+◌, ◌-◌, ◌%◌, ◌^◌, ℕ, inl, inr, List, [], length, Option, Some, None, refl, arith}
-use Rattle.std.proofs.lemmas.Bool.{cases_lt}
-use Rattle.std.specs.Ordering.{nat_cmp}
-use Rattle.std.proofs.lemmas.Cmp.{nat_cmp_total}
-use Rattle.hn_base.specs.Causes.{LineElse}
+use Rattle.hn_base.proofs.Names.{◌≡◌, ◌<◌, ◌≤◌, ◌+◌, ◌-◌, ◌%◌, ◌^◌, ℕ, inl, inr, List, [], length, Option, Some, None, refl, arith, cases_lt, nat_cmp, nat_cmp_total, LineElse}
+use Rattle.hn_store.proofs.Names.{texts_cases, HasTlvs, hash_of, Part, OwnLeaf, Took, Kept, Renumbered, Ask, Stale, BadHash, BadBody, TooLong, Full, Own, Nodes, PlainState, known_of, CarriesData}
+use Rattle.hn_store.proofs.Names.{IsStale, HasNoRoom, IsNews, entries_after, Accepts}
 use Rattle.hn_base.proofs.AscendingLists.{exact_nat}
 use Rattle.hn_base.proofs.SoOrNot.{Decided, both_decided}
-use Rattle.hn_base.proofs.DecidingTests.{texts_cases, cases_by}
-use Rattle.hn_tlv.specs.Grammar.{HasTlvs}
-use Rattle.hn_hash.specs.Hash.{hash_of}
-use Rattle.hn_hash.specs.declared.part.Part.{Part}
-use Rattle.hn_store.specs.declared.state.OwnLeaf.{OwnLeaf}
-use Rattle.hn_store.specs.declared.state.Took.{Took}
-use Rattle.hn_store.specs.declared.state.Took.TheVariants.{Kept, Renumbered, Ask, Stale, BadHash, BadBody, TooLong, Full, Own}
-use Rattle.hn_store.specs.Nodes.{Nodes}
-use Rattle.hn_store.specs.Acceptance.{PlainState, known_of, CarriesData, IsStale, HasNoRoom, IsNews, IsAnswer, entries_after, Accepts}
+use Rattle.hn_base.proofs.DecidingTests.{cases_by}
+use Rattle.hn_store.specs.Acceptance.{IsAnswer}
 
 -- ---- conditions
 

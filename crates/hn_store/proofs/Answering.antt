@@ -1,17 +1,10 @@
 -- The answer to a node state, line by line.
-use Rattle.std.proofs.Common.{◌≡◌, ◌≢◌, ◌<◌, ℕ, inl, inr, List, length, Option, refl, sym, ap, subst, arith}
-use Rattle.std.specs.Prelude.{Result, Ok, Err, IfOk}
-use Rattle.std.proofs.lemmas.Bool.{ne_eqb}
-use Rattle.hn_base.specs.Causes.{LineElse}
-use Rattle.hn_tlv.specs.Grammar.{HasTlvs}
-use Rattle.hn_hash.specs.declared.part.Part.{Part}
-use Rattle.hn_store.specs.declared.state.OwnLeaf.{OwnLeaf}
-use Rattle.hn_store.specs.declared.state.Took.{Took}
-use Rattle.hn_store.specs.declared.state.Took.TheVariants.{Kept, Renumbered, Ask, Stale, BadHash, BadBody, TooLong, Full, Own}
-use Rattle.hn_store.specs.declared.stored.HeldNode.{HeldNode}
-use Rattle.hn_store.specs.Nodes.{Nodes}
-use Rattle.hn_store.specs.Acceptance.{PlainState, held_part, known_of, CarriesData, HasWrongHash, IsStale, HasNoRoom, IsNews, IsAnswer, entries_after, Accepts}
-use Rattle.hn_store.specs.AcceptanceParts.{HasRightHash, IsPassed, IsOfData, IsOfNumber}
+use Rattle.hn_base.proofs.Names.{◌≡◌, ◌≢◌, ◌<◌, ℕ, inl, inr, List, length, Option, refl, sym, ap, subst, arith, IfOk, ne_eqb, LineElse}
+use Rattle.hn_store.proofs.Names.{HasTlvs, Part, OwnLeaf, Took, Kept, Renumbered, Ask, Stale, BadHash, BadBody, TooLong, Full, Own, HeldNode, Nodes, PlainState, held_part, known_of, CarriesData}
+use Rattle.hn_store.proofs.Names.{HasWrongHash, IsStale, HasNoRoom, IsNews, entries_after, Accepts, IsOfNumber}
+use Rattle.std.specs.Prelude.{Result, Ok, Err}
+use Rattle.hn_store.specs.Acceptance.{IsAnswer}
+use Rattle.hn_store.specs.AcceptanceParts.{HasRightHash, IsPassed, IsOfData}
 
 pub stale : (nodes : Nodes) (own : OwnLeaf) (s : PlainState) → IsStale (known_of nodes.entries own s.node) s → IsAnswer nodes own s Stale
 unfolding IsAnswer

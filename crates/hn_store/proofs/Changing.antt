@@ -1,17 +1,7 @@
 -- What a write to the entry of a node makes of the map.
-use Rattle.std.proofs.Common.{◌≡◌, ◌≢◌, ◌≤◌, ◌∙◌, ℕ, inl, inr, List, length, get_or, set, Option, Some, None, refl, sym, ap, subst}
-use Rattle.std.specs.Prelude.{insert}
-use Rattle.std.specs.Option.{option_map}
-use Rattle.hn_tlv.specs.Grammar.{HasTlvs}
-use Rattle.hn_hash.specs.Hash.{hash_of}
-use Rattle.hn_hash.specs.declared.part.Part.{Part}
-use Rattle.hn_store.specs.declared.state.Took.TheVariants.{Renumbered, Ask}
-use Rattle.hn_store.specs.declared.stored.Stored.{Stored}
-use Rattle.hn_store.specs.declared.stored.HeldNode.{HeldNode}
-use Rattle.hn_store.specs.Nodes.{IsTable, IsIntact, held, entry, put}
-use Rattle.hn_store.specs.Place.{IsPlaceOf, IsGapFor}
-use Rattle.hn_store.specs.Acceptance.{PlainState, held_part, stored_from, stored_renumbered, entries_changed, entries_after}
-use Rattle.hn_store.specs.AcceptanceParts.{IsOfNumber}
+use Rattle.hn_base.proofs.Names.{◌≡◌, ◌≢◌, ◌≤◌, ◌∙◌, ℕ, inl, inr, List, length, get_or, set, Option, Some, None, refl, sym, ap, subst, insert, option_map}
+use Rattle.hn_store.proofs.Names.{HasTlvs, hash_of, Part, Renumbered, Ask, Stored, HeldNode, IsTable, IsIntact, held, entry, put, IsPlaceOf, IsGapFor, PlainState, held_part, stored_from}
+use Rattle.hn_store.proofs.Names.{stored_renumbered, entries_changed, entries_after, IsOfNumber}
 use Rattle.hn_store.proofs.NodePlaces.{held-at, held-none, put-at, put-in}
 use Rattle.hn_store.proofs.TableStays.{IsTable-set}
 

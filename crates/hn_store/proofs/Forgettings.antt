@@ -1,15 +1,8 @@
 -- When nodes are forgotten, and what forgetting leaves.
-use Rattle.std.proofs.Common.{◌≡◌, ◌∙◌, ℕ, ◌+◌, ◌≤◌, Bool, true, false, cond, not, List, [], ◌∷◌, filter, Option, Some, None, refl, sym, ap, subst, arith}
-use Rattle.std.specs.Prelude.{find, ◌==◌, Contains, nat_le}
-use Rattle.std.specs.List.{list_any}
-use Rattle.std.specs.Option.{option_map, option_map_or}
-use Rattle.std.proofs.lemmas.Bool.{leb-true, le-leb}
-use Rattle.hn_base.proofs.Elements.{any_of, any_from, from_filter}
-use Rattle.hn_store.specs.declared.stored.Stored.{Stored}
-use Rattle.hn_store.specs.declared.stored.HeldNode.{HeldNode}
-use Rattle.hn_store.specs.Nodes.{Nodes, held}
-use Rattle.hn_store.specs.Loss.{is_forgotten}
-use Rattle.hn_store.specs.Due.{IsForgottenFrom}
+use Rattle.hn_base.proofs.Names.{◌≡◌, ◌∙◌, ℕ, ◌+◌, ◌≤◌, Bool, true, false, cond, not, List, [], ◌∷◌, filter, Option, Some, None, refl, sym, ap, subst, arith, find, ◌==◌, nat_le, list_any, option_map}
+use Rattle.hn_base.proofs.Names.{option_map_or, leb-true, le-leb}
+use Rattle.hn_store.proofs.Names.{Contains, from_filter, Stored, HeldNode, Nodes, held, is_forgotten, IsForgottenFrom}
+use Rattle.hn_base.proofs.Elements.{any_of, any_from}
 use Rattle.hn_store.specs.Laws.{ForgettingIsAMoment, NoneIsForgotten, UnlostStay}
 use Rattle.hn_store.proofs.Losses.{remembered-unneeded}
 

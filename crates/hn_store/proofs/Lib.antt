@@ -1,3 +1,4 @@
+mod Names
 pub mod NodePlaces
 pub mod TableStays
 pub mod Losses

@@ -1,11 +1,7 @@
 -- Whether bytes are a list of TLVs, and whether a hash is theirs.
-use Rattle.std.proofs.Common.{◌<◌, ◌≤◌, ◌⊎◌, ◌^◌, ℕ, inl, inr, List, [], ◌∷◌, arith}
-use Rattle.std.specs.Prelude.{All}
-use Rattle.std.proofs.lemmas.Bool.{cases_lt}
-use Rattle.std.proofs.lemmas.List.Elements.{All-nil, All-cons, All-head, All-tail}
-use Rattle.hn_tlv.specs.Grammar.{HasTlvs, FirstFault}
+use Rattle.hn_base.proofs.Names.{◌<◌, ◌≤◌, ◌⊎◌, ◌^◌, ℕ, inl, inr, List, [], ◌∷◌, arith, All, cases_lt, All-nil, All-cons, All-head, All-tail, IsByte}
+use Rattle.hn_store.proofs.Names.{HasTlvs, FirstFault}
 use Rattle.hn_tlv.specs.Laws.{ListIsOfBytes, ListHasNoFirstFault, ListOrFirstFault}
-use Rattle.hn_base.specs.Byte.{IsByte}
 
 -- a fact that does not fail holds, where it holds or fails
 pub not_not : (P : Type 0) → P ⊎ (¬ P) → ¬ (¬ P) → P

@@ -1,26 +1,17 @@
 -- Who is among the reachable nodes, and what a mark changes.
-use Rattle.std.proofs.Common.{◌≡◌, ◌<◌, ℕ, ◌+◌, inl, inr, Bool, true, false, cond, not, List, [], ◌∷◌, ◌++◌, length, map, filter, take, drop, get_or, subst, Result, Ok, Err, is_ok, Option, Some}
-use Rattle.std.proofs.Common.{None, refl, sym, ap, arith}
-use Rattle.std.specs.Prelude.{is_some, is_none, ◌==◌, count_by, IsTrue}
-use Rattle.std.specs.List.{list_any, AllAdjacentBelow, IsAllAdjacentAnswer}
-use Rattle.std.specs.List.Sorted.{IsNonDecreasingBy, IsStrictlySortedBy, IsSearchInRange, IsBinarySearchResult}
-use Rattle.std.specs.declared.cmp.Ordering.TheVariants.{Less, Equal, Greater}
-use Rattle.std.specs.Ordering.{nat_cmp, is_le, ordering_index}
-use Rattle.std.specs.Cmp.{ranked}
-use Rattle.std.proofs.lemmas.Bool.{eq-eqb, ne_eqb, cases_lt, or_parts}
+use Rattle.hn_base.proofs.Names.{◌≡◌, ◌<◌, ℕ, ◌+◌, inl, inr, Bool, true, false, cond, not, List, [], ◌∷◌, ◌++◌, length, map, filter, take, drop, get_or, subst, Result, Ok, Err, is_ok, Option, Some}
+use Rattle.hn_base.proofs.Names.{None, refl, sym, ap, arith, is_none, ◌==◌, list_any, AllAdjacentBelow, IsAllAdjacentAnswer, IsNonDecreasingBy, IsStrictlySortedBy, IsSearchInRange}
+use Rattle.hn_base.proofs.Names.{IsBinarySearchResult, Less, Equal, Greater, nat_cmp, ordering_index, ranked, eq-eqb, ne_eqb, cases_lt, or_parts, list_any_at, common_steps, length-map, All-map}
+use Rattle.hn_base.proofs.Names.{All-weaker, length-filter}
+use Rattle.hn_store.proofs.Names.{NodeId, HeldNode, IsTable, IsIntact, ids_of_held, lost_after, marked_node, is_to_mark, is_forgotten}
+use Rattle.std.specs.Prelude.{is_some, count_by, IsTrue}
+use Rattle.std.specs.Ordering.{is_le}
 use Rattle.std.proofs.lemmas.Map.Keys.{le_from_is_le}
 use Rattle.std.proofs.lemmas.List.Sorted.{IsNonDecreasingBy-from_all_adjacent}
-use Rattle.std.proofs.lemmas.List.Folds.{list_any_at, list_any_none}
-use Rattle.hn_base.specs.declared.ids.NodeId.{NodeId}
-use Rattle.hn_store.specs.declared.stored.HeldNode.{HeldNode}
-use Rattle.std.proofs.lemmas.Grind.{common_steps}
-use Rattle.std.proofs.lemmas.List.{length-map}
-use Rattle.std.proofs.lemmas.List.Elements.{All-map, All-weaker}
+use Rattle.std.proofs.lemmas.List.Folds.{list_any_none}
 use Rattle.std.proofs.lemmas.List.Filters.{length-filter_both}
-use Rattle.std.proofs.lemmas.List.Sums.{length-filter}
-use Rattle.hn_store.specs.Nodes.{IsTable, IsIntact, ids_of_held}
 use Rattle.hn_store.proofs.NodePlaces.{order_rises}
-use Rattle.hn_store.specs.Loss.{is_among, lost_after, marked_node, is_to_mark, is_forgotten}
+use Rattle.hn_store.specs.Loss.{is_among}
 
 rises_from_test : (ids : List NodeId) → AllAdjacentBelow (λ x y. is_le (nat_cmp x.0 y.0) ≡ true) ids (length ids) → IsNonDecreasingBy (λ id. id.0) ids
 rises_from_test ids adjacent =

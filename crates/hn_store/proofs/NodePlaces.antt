@@ -1,22 +1,9 @@
 -- What the place of a node says of the map.
-use Rattle.std.proofs.Common.{◌≡◌, ◌∙◌, ◌<◌, ◌≤◌, ℕ, suc, false, List, length, filter, take, drop, get_or, set, Some, None, Result, Ok, Err, sym, ap, inl, inr, arith}
-use Rattle.std.specs.Prelude.{insert, IfOk, IfErr, ◌==◌, nat_lt}
-use Rattle.std.specs.Option.{option_map}
-use Rattle.std.specs.List.{HoldsAt}
-use Rattle.std.specs.List.Sorted.{IsStrictlySortedBy, IsSearchInRange, IsBinarySearchResult, IsNonDecreasingBy}
-use Rattle.std.specs.Ordering.{nat_cmp}
-use Rattle.std.proofs.lemmas.Bool.Decides.{nat_tests}
-use Rattle.std.proofs.lemmas.Bool.{lt-ltb, le-ltb, eq-eqb, ne_eqb, cases_lt}
-use Rattle.std.specs.Cmp.{ranked}
-use Rattle.std.specs.Ordering.{ordering_index}
-use Rattle.std.specs.declared.cmp.Ordering.TheVariants.{Less, Equal, Greater}
-use Rattle.std.proofs.lemmas.List.{get_or_default, get_or-map, length-map, set_split}
-use Rattle.std.proofs.lemmas.Map.Keys.{below_from_sorted}
-use Rattle.hn_base.proofs.FrontOfList.{filter-front, filter-back, find-at, find-none}
-use Rattle.hn_store.specs.declared.stored.Stored.{Stored}
-use Rattle.hn_store.specs.declared.stored.HeldNode.{HeldNode}
-use Rattle.hn_store.specs.Nodes.{ids_of_held, held, entry, put}
-use Rattle.hn_store.specs.Place.{IsPlaceOf, IsGapFor}
+use Rattle.hn_base.proofs.Names.{◌≡◌, ◌∙◌, ◌<◌, ◌≤◌, ℕ, suc, false, List, length, filter, take, drop, get_or, set, Some, None, Result, Ok, Err, sym, ap, inl, inr, arith, insert, IfOk, IfErr, ◌==◌}
+use Rattle.hn_base.proofs.Names.{option_map, HoldsAt, IsStrictlySortedBy, IsSearchInRange, IsBinarySearchResult, IsNonDecreasingBy, nat_cmp, nat_tests, lt-ltb, le-ltb, eq-eqb, ne_eqb, cases_lt}
+use Rattle.hn_base.proofs.Names.{ranked, ordering_index, Less, Equal, Greater, get_or_default, get_or-map, length-map, set_split, below_from_sorted}
+use Rattle.hn_store.proofs.Names.{nat_lt, find-none, Stored, HeldNode, ids_of_held, held, entry, put, IsPlaceOf, IsGapFor}
+use Rattle.hn_base.proofs.FrontOfList.{filter-front, filter-back, find-at}
 
 -- ---- binary search
 

@@ -1,19 +1,8 @@
 -- That a changed table is one still.
-use Rattle.std.proofs.Common.{◌≡◌, ◌<◌, ◌≤◌, ◌⊎◌, ℕ, Bool, List, [], ◌∷◌, length, map, filter, set, sym, subst, arith}
-use Rattle.std.specs.Prelude.{insert, All, nat_lt}
-use Rattle.std.specs.List.{AllByRecursion}
+use Rattle.hn_base.proofs.Names.{◌≡◌, ◌<◌, ◌≤◌, ◌⊎◌, ℕ, Bool, List, [], ◌∷◌, length, map, filter, set, sym, subst, arith, insert, All, AllByRecursion, Less, nat_cmp, length-set, length-insert}
+use Rattle.hn_base.proofs.Names.{All-append, All-nil, All-cons, All-filter, length-filter, count_by-le-length, node_cmp}
+use Rattle.hn_store.proofs.Names.{nat_lt, Stored, HeldNode, IsTable, IsIntact, ids_of_held, entry, put, IsPlaceOf, IsGapFor}
 use Rattle.std.specs.List.Sorted.{IsStrictlySortedBy}
-use Rattle.std.specs.declared.cmp.Ordering.TheVariants.{Less}
-use Rattle.std.specs.Ordering.{nat_cmp}
-use Rattle.std.proofs.lemmas.List.{length-set}
-use Rattle.std.proofs.lemmas.List.Edits.{length-insert}
-use Rattle.std.proofs.lemmas.List.Elements.{All-append, All-nil, All-cons, All-filter}
-use Rattle.std.proofs.lemmas.List.Sums.{length-filter, count_by-le-length}
-use Rattle.hn_base.specs.NodeIds.{node_cmp}
-use Rattle.hn_store.specs.declared.stored.Stored.{Stored}
-use Rattle.hn_store.specs.declared.stored.HeldNode.{HeldNode}
-use Rattle.hn_store.specs.Nodes.{IsTable, IsIntact, ids_of_held, entry, put}
-use Rattle.hn_store.specs.Place.{IsPlaceOf, IsGapFor}
 use Rattle.hn_store.proofs.NodePlaces.{put-at, put-in}
 use Rattle.hn_base.proofs.AscendingNumbers.{ascending-filter, ascending-around}
 

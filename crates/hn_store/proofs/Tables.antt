@@ -1,25 +1,14 @@
 -- That a table is one after a node state arrived.
-use Rattle.std.proofs.Common.{◌≡◌, ◌≢◌, suc, ◌<◌, ◌≤◌, ◌⊎◌, ◌∙◌, ℕ, inl, inr, Bool, true, false, List, [], ◌∷◌, cond, length, Option, Some, None, refl, sym, ap, subst, arith}
-use Rattle.std.specs.Prelude.{All, Contains, find, ◌==◌, ◌||◌}
-use Rattle.std.specs.List.{list_any}
-use Rattle.std.specs.Option.{option_map}
-use Rattle.std.proofs.lemmas.Bool.{cases_lt, eqb-true}
-use Rattle.std.proofs.lemmas.List.Elements.{All-contains}
+use Rattle.hn_base.proofs.Names.{◌≡◌, ◌≢◌, suc, ◌<◌, ◌≤◌, ◌⊎◌, ◌∙◌, ℕ, inl, inr, Bool, true, false, List, [], ◌∷◌, cond, length, Option, Some, None, refl, sym, ap, subst, arith, All, find, ◌==◌, ◌||◌}
+use Rattle.hn_base.proofs.Names.{list_any, option_map, cases_lt, eqb-true, All-contains}
+use Rattle.hn_store.proofs.Names.{Contains, HasTlvs, hash_of, Stored, HeldNode, OwnLeaf, Took, Kept, Renumbered, Ask, Stale, BadHash, BadBody, TooLong, Full, Own, Nodes, IsTable, IsIntact, held}
+use Rattle.hn_store.proofs.Names.{entry, put, stored_part, PlainState, known_of, CarriesData, HasWrongHash, HasNoRoom, stored_from, stored_renumbered, entries_changed, entries_after, texts_cases}
 use Rattle.hn_base.proofs.AscendingLists.{Contains-head, Contains-tail}
-use Rattle.hn_tlv.specs.Grammar.{HasTlvs}
-use Rattle.hn_hash.specs.Hash.{hash_of}
-use Rattle.hn_store.specs.declared.stored.Stored.{Stored}
-use Rattle.hn_store.specs.declared.stored.HeldNode.{HeldNode}
-use Rattle.hn_store.specs.declared.state.OwnLeaf.{OwnLeaf}
-use Rattle.hn_store.specs.declared.state.Took.{Took}
-use Rattle.hn_store.specs.declared.state.Took.TheVariants.{Kept, Renumbered, Ask, Stale, BadHash, BadBody, TooLong, Full, Own}
-use Rattle.hn_store.specs.Nodes.{Nodes, IsTable, IsIntact, held, entry, put, stored_part}
-use Rattle.hn_store.specs.Acceptance.{PlainState, known_of, CarriesData, HasWrongHash, HasNoRoom, IsAnswer, stored_from, stored_renumbered, entries_changed, entries_after}
+use Rattle.hn_store.specs.Acceptance.{IsAnswer}
 use Rattle.hn_store.specs.Laws.{HeldIsOfAnEntry, AcceptanceKeepsTable}
 use Rattle.hn_store.proofs.Answering.{known_of-other}
 use Rattle.hn_base.proofs.AscendingNumbers.{around-few, around-fewer}
 use Rattle.hn_store.proofs.TableStays.{are_put, IntactNode}
-use Rattle.hn_base.proofs.DecidingTests.{texts_cases}
 use Rattle.hn_store.proofs.Listed.{not_not}
 
 -- ---- how many nodes there are after one was put

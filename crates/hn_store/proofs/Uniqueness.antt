@@ -1,21 +1,12 @@
 -- The laws of the table and of what comes of a node state.
-use Rattle.std.proofs.Common.{◌≡◌, ◌≢◌, ◌<◌, ◌∙◌, ℕ, inl, inr, Bool, true, false, cond, List, [], ◌∷◌, ◌++◌, filter, Option, Some, None, refl, sym, ap, subst, arith, get_or}
-use Rattle.std.specs.Prelude.{find, ◌==◌, nat_lt}
-use Rattle.std.specs.Option.{option_map}
-use Rattle.std.specs.List.{AllByRecursion}
-use Rattle.std.proofs.lemmas.Bool.{eq-eqb, ne_eqb, eqb-true, eqb-false, ltb-true, lt-ltb, cases_lt}
-use Rattle.hn_store.specs.declared.stored.Stored.{Stored}
-use Rattle.hn_store.specs.declared.stored.HeldNode.{HeldNode}
-use Rattle.hn_store.specs.declared.state.OwnLeaf.{OwnLeaf}
-use Rattle.hn_store.specs.declared.state.Took.{Took}
-use Rattle.hn_store.specs.declared.state.Took.TheVariants.{Kept, Renumbered, Ask, Stale, BadHash, BadBody, TooLong, Full, Own}
-use Rattle.hn_store.specs.Nodes.{Nodes, held, entry, put}
-use Rattle.hn_store.specs.Acceptance.{PlainState, IsAnswer, stored_from, stored_renumbered, entries_changed, entries_after}
+use Rattle.hn_base.proofs.Names.{◌≡◌, ◌≢◌, ◌<◌, ◌∙◌, ℕ, inl, inr, Bool, true, false, cond, List, [], ◌∷◌, ◌++◌, filter, Option, Some, None, refl, sym, ap, subst, arith, get_or, find, ◌==◌, option_map}
+use Rattle.hn_base.proofs.Names.{AllByRecursion, eq-eqb, ne_eqb, eqb-true, eqb-false, ltb-true, lt-ltb, cases_lt, All-from_recursion}
+use Rattle.hn_store.proofs.Names.{nat_lt, Stored, HeldNode, OwnLeaf, Took, Kept, Renumbered, Ask, Stale, BadHash, BadBody, TooLong, Full, Own, Nodes, held, entry, put, PlainState, stored_from}
+use Rattle.hn_store.proofs.Names.{stored_renumbered, entries_changed, entries_after, find-none}
+use Rattle.hn_store.specs.Acceptance.{IsAnswer}
 use Rattle.hn_store.specs.Laws.{PutChangesOneNode, AcceptanceIsUnique, OthersStay, OwnStays}
 use Rattle.hn_base.proofs.FirstCause.{both_lines}
-use Rattle.hn_base.proofs.FrontOfList.{find-none}
 use Rattle.hn_base.proofs.PassingElements.{find-filter}
-use Rattle.std.proofs.lemmas.List.Elements.{All-from_recursion}
 
 -- ---- the first line that holds is one
 

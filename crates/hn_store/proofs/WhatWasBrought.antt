@@ -1,25 +1,13 @@
 -- What is held was held before, or a node state brought it; and which node states are held.
-use Rattle.std.proofs.Common.{◌≡◌, ◌≢◌, ◌⊎◌, ◌∙◌, ℕ, inl, inr, Bool, true, false, cond, not, List, [], ◌∷◌, map, filter, Option, Some, None, refl, sym, ap, subst}
-use Rattle.std.specs.Prelude.{find, ◌==◌, Contains}
-use Rattle.std.specs.Option.{option_map}
-use Rattle.std.specs.Ordering.{nat_cmp}
-use Rattle.std.proofs.lemmas.Bool.{eqb-true, eq-eqb}
-use Rattle.hn_base.specs.declared.ids.NodeId.{NodeId}
-use Rattle.hn_base.proofs.DecidingTests.{texts_cases}
-use Rattle.hn_base.proofs.Elements.{from_filter, passing_found, found_passes}
+use Rattle.hn_base.proofs.Names.{◌≡◌, ◌≢◌, ◌⊎◌, ◌∙◌, ℕ, inl, inr, Bool, true, false, cond, not, List, [], ◌∷◌, map, filter, Option, Some, None, refl, sym, ap, subst, find, ◌==◌, option_map, nat_cmp}
+use Rattle.hn_base.proofs.Names.{eqb-true, eq-eqb, nat_cmp_total}
+use Rattle.hn_store.proofs.Names.{Contains, NodeId, texts_cases, from_filter, hash_of, Part, Stored, HeldNode, OwnLeaf, Took, Kept, Renumbered, Ask, Stale, BadHash, BadBody, TooLong, Full, Own, Nodes}
+use Rattle.hn_store.proofs.Names.{held, put, stored_part, IsTable, PlainState, held_part, known_of, CarriesData, HasWrongHash, IsStale, IsNews, stored_from, stored_renumbered, entries_changed}
+use Rattle.hn_store.proofs.Names.{entries_after, marked_node, is_forgotten}
+use Rattle.hn_base.proofs.Elements.{passing_found, found_passes}
 use Rattle.hn_base.proofs.AscendingLists.{sorted_parts}
 use Rattle.hn_base.proofs.PartsAtPlaces.{one_of_ascending}
-use Rattle.std.proofs.lemmas.Cmp.{nat_cmp_total}
-use Rattle.hn_hash.specs.Hash.{hash_of}
-use Rattle.hn_hash.specs.declared.part.Part.{Part}
-use Rattle.hn_store.specs.declared.stored.Stored.{Stored}
-use Rattle.hn_store.specs.declared.stored.HeldNode.{HeldNode}
-use Rattle.hn_store.specs.declared.state.OwnLeaf.{OwnLeaf}
-use Rattle.hn_store.specs.declared.state.Took.{Took}
-use Rattle.hn_store.specs.declared.state.Took.TheVariants.{Kept, Renumbered, Ask, Stale, BadHash, BadBody, TooLong, Full, Own}
-use Rattle.hn_store.specs.Nodes.{Nodes, held, put, stored_part, IsTable}
-use Rattle.hn_store.specs.Acceptance.{PlainState, held_part, known_of, CarriesData, HasWrongHash, IsStale, IsNews, IsAnswer, stored_from, stored_renumbered, entries_changed, entries_after}
-use Rattle.hn_store.specs.Loss.{marked_node, is_forgotten}
+use Rattle.hn_store.specs.Acceptance.{IsAnswer}
 use Rattle.hn_store.specs.Brought.{WasHeld, BroughtData, BroughtNumber}
 use Rattle.hn_store.specs.Laws.{HeldWasBrought, MarkedWasHeld, RememberedWasHeld, TrueDataAreKept}
 use Rattle.hn_store.proofs.Answering.{of_data, known_of-other}

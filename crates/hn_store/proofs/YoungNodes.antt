@@ -1,15 +1,8 @@
 -- Until when the data of nodes are young.
-use Rattle.std.proofs.Common.{ℕ, ◌≤◌, Bool, List, [], ◌∷◌, map, filter, set, nat_lt, sym, subst, arith}
-use Rattle.std.specs.Prelude.{insert}
-use Rattle.std.proofs.lemmas.List.Elements.{All-append, All-cons, All-filter, All-map, All-nil, All-set, All-weaker}
-use Rattle.hn_base.specs.declared.ids.NodeId.{NodeId}
-use Rattle.hn_store.specs.declared.stored.Stored.{Stored}
-use Rattle.hn_store.specs.declared.stored.HeldNode.{HeldNode}
-use Rattle.hn_store.specs.Nodes.{entry, put}
-use Rattle.hn_store.specs.Place.{IsGapFor}
-use Rattle.hn_store.specs.Loss.{marked_node}
+use Rattle.hn_base.proofs.Names.{ℕ, ◌≤◌, Bool, List, [], ◌∷◌, map, filter, set, nat_lt, sym, subst, arith, insert, All-append, All-cons, All-filter, All-map, All-nil, All-set, All-weaker}
+use Rattle.hn_store.proofs.Names.{NodeId, Stored, HeldNode, entry, put, IsGapFor, marked_node, AreYoungBefore}
 use Rattle.hn_store.proofs.NodePlaces.{put-in}
-use Rattle.hn_store.specs.Young.{IsYoungBefore, AreYoungBefore}
+use Rattle.hn_store.specs.Young.{IsYoungBefore}
 
 abbrev IsYoung : ℕ → HeldNode → Type 0
 IsYoung end node = IsYoungBefore end node.stored

@@ -1,33 +1,8 @@
 -- What an exchange is after the question.
-use Rattle.std.proofs.Common.{◌≡◌, ◌≢◌, ◌∙◌, ◌⊎◌, ◌<◌, ◌+◌, ◌^◌, ◌==◌, ℕ, suc, Bool, true, false, List, [], ◌∷◌, ◌++◌, length, map, slice_get, position, Contains, Some, None, sym, ap, subst, refl}
-use Rattle.std.proofs.Common.{inl, inr, arith}
-use Rattle.std.specs.List.{list_any}
-use Rattle.std.proofs.lemmas.Bool.{eq-eqb, eqb-true}
-use Rattle.std.proofs.lemmas.List.{append-nil}
-use Rattle.std.proofs.lemmas.List.Elements.{All-nil, All-contains}
-use Rattle.std.proofs.lemmas.Option.{same_Some, slice_get_within}
-use Rattle.hn_base.proofs.Elements.{all_of, any_of, any_from}
-use Rattle.hn_base.proofs.Keys.{same_node}
-use Rattle.hn_base.specs.declared.ids.EpId.{EpId}
-use Rattle.hn_base.specs.declared.ids.NodeId.{NodeId}
-use Rattle.hn_data.specs.declared.view.Entry.{Entry}
-use Rattle.hn_dncp.specs.Packing.{datagram_of, sender_tlv}
-use Rattle.hn_router.specs.Act.{Arrive, Happened}
-use Rattle.hn_rules.specs.declared.answers.Subject.TheVariants.{NodeState}
-use Rattle.hn_rules.specs.declared.done.Done.{Done}
-use Rattle.hn_rules.specs.declared.done.Note.{Note}
-use Rattle.hn_rules.specs.declared.running.Origin.{Origin}
-use Rattle.hn_rules.specs.declared.state.State.{State}
-use Rattle.hn_rules.specs.Router.{IsRouter}
-use Rattle.hn_tlv.specs.Grammar.{IsTlvList}
-use Rattle.hn_world.specs.declared.copies.MailCopy.{MailCopy}
-use Rattle.hn_world.specs.declared.copies.Target.{Target}
-use Rattle.hn_world.specs.declared.member.Member.{Member}
-use Rattle.hn_world.specs.declared.parts.Parts.{Parts}
-use Rattle.hn_world.specs.Mail.{address_of_target, on_link, copies_of}
-use Rattle.hn_world.specs.Names.{is_named, link_of}
-use Rattle.hn_world.specs.Replay.{IsReplayed, IsSoundMember}
-use Rattle.hn_world.specs.Step.{ActsAt, acted}
+use Rattle.hn_base.proofs.Names.{◌≡◌, ◌≢◌, ◌∙◌, ◌⊎◌, ◌<◌, ◌+◌, ◌^◌, ℕ, suc, Bool, true, false, List, [], ◌∷◌, ◌++◌, length, map, slice_get, position, Contains, Some, None, sym, ap, subst, refl, inl}
+use Rattle.hn_base.proofs.Names.{inr, arith, list_any, eq-eqb, eqb-true, append-nil, All-nil, All-contains, same_Some, slice_get_within}
+use Rattle.hn_sync.proofs.Names.{◌==◌, all_of, any_of, any_from, same_node, EpId, NodeId, Entry, datagram_of, sender_tlv, Arrive, Happened, NodeState, Done, Note, Origin, State, IsRouter, IsTlvList}
+use Rattle.hn_sync.proofs.Names.{MailCopy, Target, Member, Parts, address_of_target, on_link, copies_of, is_named, link_of, IsReplayed, IsSoundMember, ActsAt, acted, request}
 use Rattle.hn_sync.proofs.Arrivals.{has_arrived}
 use Rattle.hn_sync.proofs.NodeStatesSaid.{IsFit, Knows, knows_or_not, Says}
 use Rattle.hn_sync.proofs.BeforeEachDelivery.{GoingLaws, known_attached, known_there, on_from_link, IsPair, IsGoing}
@@ -41,7 +16,6 @@ use Rattle.hn_sync.proofs.Replies.{ascends_part}
 use Rattle.hn_sync.proofs.Sayings.{tlv_said, can_say_endpoint, can_say_request, in_whole}
 use Rattle.hn_sync.proofs.PeersSaid.{knows_at, knows_from_signs}
 use Rattle.hn_sync.proofs.TurnsOfExchange.{question, IsQuestioned, question_arrives}
-use Rattle.hn_sync.specs.Exchange.{request}
 
 -- the datagram of a question is read
 question_read : (node : NodeId) (endpoint : EpId) → node.0 < 2 ^ 32 → endpoint.0 < 2 ^ 32

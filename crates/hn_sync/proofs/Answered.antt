@@ -1,16 +1,8 @@
 -- Answers that come up, each once, and the items that they were written for.
-use Rattle.std.proofs.Common.{◌≡◌, ◌∙◌, ◌⊎◌, Bool, true, false, List, [], ◌∷◌, ◌++◌, map, Contains, All, ap, refl, inl, inr}
-use Rattle.std.proofs.lemmas.Bool.{eq-eqb, eqb-true}
-use Rattle.std.proofs.lemmas.List.Elements.{All-push, Contains-append_left, Contains-append_right}
-use Rattle.hn_base.proofs.AscendingLists.{Contains-head, Contains-from_map}
-use Rattle.hn_base.proofs.Elements.{any_of}
-use Rattle.hn_base.proofs.Keys.{same_node}
-use Rattle.hn_rules.specs.declared.answers.Answer.{Answer}
-use Rattle.hn_rules.specs.declared.answers.Subject.{Subject}
-use Rattle.hn_rules.specs.declared.answers.Subject.TheVariants.{NetworkRequest, NetworkState, NodeRequest, NodeState, NodeData}
-use Rattle.hn_rules.specs.declared.running.Running.{Running}
-use Rattle.hn_rules.specs.Answers.{same_subject, is_answered, answered, with_answer}
-use Rattle.hn_typed.specs.Item.{PlainItem}
+use Rattle.hn_base.proofs.Names.{◌≡◌, ◌∙◌, ◌⊎◌, Bool, true, false, List, [], ◌∷◌, ◌++◌, map, Contains, ap, refl, inl, inr, eq-eqb, eqb-true, All-push, Contains-append_left, Contains-append_right}
+use Rattle.hn_sync.proofs.Names.{All, Contains-head, Contains-from_map, any_of, same_node, Answer, Subject, NetworkRequest, NetworkState, NodeRequest, NodeState, NodeData, Running, with_answer}
+use Rattle.hn_sync.proofs.Names.{PlainItem}
+use Rattle.hn_rules.specs.Answers.{same_subject, is_answered, answered}
 use Rattle.hn_sync.proofs.Sayings.{Saying, answer_of}
 
 abbrev pub AnswersAre : Running → List Saying → Type 0

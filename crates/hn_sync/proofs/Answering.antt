@@ -1,39 +1,19 @@
 -- What a router sends when a datagram arrives goes back to where it came from.
-use Rattle.std.proofs.Common.{◌≡◌, ◌∙◌, ◌⊎◌, ◌==◌, ℕ, Bool, true, false, cond, List, [], ◌∷◌, ◌++◌, map, is_some, All, Option, Some, None, sym, ap, subst, refl, inl, inr}
-use Rattle.std.proofs.lemmas.List.Elements.{All-nil}
-use Rattle.hn_base.specs.declared.ids.EpId.{EpId}
-use Rattle.hn_base.specs.declared.ids.NodeId.{NodeId}
-use Rattle.hn_base.specs.Rules.{Then, Each, OnSome, KeepsBy}
-use Rattle.hn_base.proofs.AscendingLists.{Contains-from_map}
-use Rattle.hn_base.proofs.Elements.{all_of}
+use Rattle.hn_base.proofs.Names.{◌≡◌, ◌∙◌, ◌⊎◌, ℕ, Bool, true, false, cond, List, [], ◌∷◌, ◌++◌, map, is_some, Option, Some, None, sym, ap, subst, refl, inl, inr, All-nil, Then, Each, OnSome, KeepsBy}
+use Rattle.hn_sync.proofs.Names.{◌==◌, All, EpId, NodeId, Contains-from_map, all_of, Port, endpoints_of, port_at, Arrive, IsEvent, Subject, Done, Outgoing, Origin, Running, State, IsItemRule}
+use Rattle.hn_sync.proofs.Names.{IsTlvRule, IsArrival, IsClaim, network_state, node_endpoint, named, met, IsTaken, IsPublishing, IsReaching, IsPortReset, IsHashing, IsRefresh, IsNetworkRequest}
+use Rattle.hn_sync.proofs.Names.{request_node, with_some_answer, with_state, is_reached, state_item, AtPort, begun_at, noted, PlainState, Took, PlainTlv, PlainItem}
 use Rattle.hn_dncp.specs.declared.greet.Greet.{Greet}
 use Rattle.hn_dncp.specs.declared.greet.Greet.TheVariants as greet
-use Rattle.hn_dncp.specs.declared.port.Port.{Port}
 use Rattle.hn_dncp.specs.Ask.{may_ask}
 use Rattle.hn_dncp.specs.Greet.{greeting}
-use Rattle.hn_own.specs.Ports.{endpoints_of, port_at}
-use Rattle.hn_router.specs.Act.{Arrive, IsFar, IsMalformed, IsRead, IsEvent, Happened}
-use Rattle.hn_rules.specs.declared.answers.Subject.{Subject}
+use Rattle.hn_router.specs.Act.{IsFar, IsMalformed, IsRead, Happened}
 use Rattle.hn_rules.specs.declared.answers.Subject.TheVariants as subject
-use Rattle.hn_rules.specs.declared.done.Done.{Done}
 use Rattle.hn_rules.specs.declared.done.Note.TheVariants as note
-use Rattle.hn_rules.specs.declared.done.Outgoing.{Outgoing}
-use Rattle.hn_rules.specs.declared.running.Origin.{Origin}
-use Rattle.hn_rules.specs.declared.running.Running.{Running}
-use Rattle.hn_rules.specs.declared.state.State.{State}
-use Rattle.hn_rules.specs.Arrival.{IsItemRule, IsTlvRule, IsTlvs, IsArrival}
-use Rattle.hn_rules.specs.Claim.{IsClaim}
-use Rattle.hn_rules.specs.NetworkState.{network_state}
-use Rattle.hn_rules.specs.NodeEndpoint.{node_endpoint, named, met, asking}
-use Rattle.hn_rules.specs.NodeState.{IsTaken}
-use Rattle.hn_rules.specs.Refresh.{IsPublishing, IsReaching, IsPortReset, IsHashing, IsRefresh}
-use Rattle.hn_rules.specs.Requests.{IsNetworkRequest, request_node, with_some_answer, with_state, is_reached, state_item}
-use Rattle.hn_rules.specs.Rules.{Rule, AtPort, begun_at, noted}
-use Rattle.hn_store.specs.Acceptance.{PlainState}
-use Rattle.hn_store.specs.declared.state.Took.{Took}
+use Rattle.hn_rules.specs.Arrival.{IsTlvs}
+use Rattle.hn_rules.specs.NodeEndpoint.{asking}
+use Rattle.hn_rules.specs.Rules.{Rule}
 use Rattle.hn_store.specs.declared.state.Took.TheVariants as took
-use Rattle.hn_tlv.specs.Grammar.{PlainTlv}
-use Rattle.hn_typed.specs.Item.{PlainItem}
 use Rattle.hn_typed.specs.Item as item
 
 -- ---- rules that send nothing

@@ -1,20 +1,8 @@
 -- A datagram arrives that is a list of TLVs from a link-local address, at an endpoint that is attached.
-use Rattle.std.proofs.Common.{◌≡◌, ◌∙◌, ℕ, true, false, not, List, [], ◌++◌, map, Some, sym, ap, subst, inl, inr}
-use Rattle.hn_base.specs.Addr.{IsLinkLocal}
-use Rattle.hn_base.specs.Rules.{Then, Each}
-use Rattle.hn_dncp.specs.Packing.{IsPacking}
-use Rattle.hn_own.specs.Ports.{is_attached}
-use Rattle.hn_router.specs.Act.{Arrive, IsEvent, Happened}
-use Rattle.hn_rules.specs.declared.done.Done.{Done}
-use Rattle.hn_rules.specs.declared.done.Outgoing.{Outgoing}
-use Rattle.hn_rules.specs.declared.running.Origin.{Origin}
-use Rattle.hn_rules.specs.declared.running.Running.{Running}
-use Rattle.hn_rules.specs.declared.state.State.{State}
-use Rattle.hn_rules.specs.Arrival.{IsTlvRule, IsArrival}
-use Rattle.hn_rules.specs.Refresh.{IsRefresh}
-use Rattle.hn_rules.specs.Rules.{begun_at}
-use Rattle.hn_tlv.specs.Grammar.{PlainTlv, IsTlvList}
-use Rattle.hn_tlv.specs.Laws.{ListIsUnique, ListHasNoFirstFault}
+use Rattle.hn_base.proofs.Names.{◌≡◌, ◌∙◌, ℕ, true, false, not, List, [], ◌++◌, map, Some, sym, ap, subst, inl, inr, IsLinkLocal, Then, Each}
+use Rattle.hn_sync.proofs.Names.{IsPacking, is_attached, Arrive, IsEvent, Done, Outgoing, Origin, Running, State, IsTlvRule, IsArrival, IsRefresh, begun_at, PlainTlv, IsTlvList, ListIsUnique}
+use Rattle.hn_sync.proofs.Names.{ListHasNoFirstFault}
+use Rattle.hn_router.specs.Act.{Happened}
 use Rattle.hn_sync.proofs.Answering.{tlvs_send_nothing}
 
 -- datagrams are sent back

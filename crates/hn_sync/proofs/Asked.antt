@@ -1,31 +1,14 @@
 -- The question of an exchange.
-use Rattle.std.proofs.Common.{◌≡◌, ◌∙◌, ℕ, Bool, true, false, not, cond, List, [], ◌∷◌, length, find, position, slice_get, is_none, Option, Some, None, sym, ap, subst, refl, inl, arith}
-use Rattle.std.specs.List.{position_or_len}
-use Rattle.std.specs.Option.{option_or}
-use Rattle.std.proofs.lemmas.Bool.{lt-ltb}
-use Rattle.std.proofs.lemmas.List.Elements.{All-contains}
-use Rattle.std.proofs.lemmas.List.Folds.{find_at}
-use Rattle.std.proofs.lemmas.Option.{same_Some, slice_get_within}
-use Rattle.hn_base.specs.Name.{name_text}
-use Rattle.hn_base.specs.declared.addr.Addr.{Addr}
-use Rattle.hn_base.specs.declared.ids.EpId.{EpId}
-use Rattle.hn_base.specs.declared.ids.NodeId.{NodeId}
-use Rattle.hn_base.specs.declared.name.Name.{Name}
-use Rattle.hn_base.proofs.Elements.{found_passes}
+use Rattle.hn_base.proofs.Names.{◌≡◌, ◌∙◌, ℕ, Bool, true, false, not, cond, List, [], ◌∷◌, length, position, slice_get, Option, Some, None, sym, ap, subst, refl, inl, arith, position_or_len}
+use Rattle.hn_base.proofs.Names.{option_or, lt-ltb, All-contains, find_at, same_Some, slice_get_within, name_text}
+use Rattle.hn_sync.proofs.Names.{find, is_none, Addr, EpId, NodeId, Name, found_passes, datagram_of, IsPacking, ArePorts, WEvent, Member, Parts, address_of_target, is_named, member_named}
+use Rattle.hn_sync.proofs.Names.{router_place, IsReplayed, IsSoundMember, request, IsQuestion, unless_exchange, AreLeast, joint_of, QuestionIsUnique, AsksOrIsRefused}
 use Rattle.hn_dncp.specs.Laws.{PackingIsUnique}
-use Rattle.hn_dncp.specs.Packing.{datagram_of, IsPacking}
-use Rattle.hn_own.specs.Ports.{ArePorts}
-use Rattle.hn_world.specs.declared.event.WEvent.{WEvent}
 use Rattle.hn_world.specs.declared.event.WEvent.TheVariants as event
-use Rattle.hn_world.specs.declared.member.Member.{Member}
-use Rattle.hn_world.specs.declared.parts.Parts.{Parts}
-use Rattle.hn_world.specs.Mail.{address_of_target}
-use Rattle.hn_world.specs.Names.{is_named, member_named, router_place}
 use Rattle.hn_world.specs.Asked.{code_if, of_router, unless_running}
-use Rattle.hn_world.specs.Replay.{IsReplayed, IsSoundWorld, IsSoundMember}
-use Rattle.hn_sync.specs.Exchange.{request, IsQuestion, unless_exchange, unless_joined}
-use Rattle.hn_sync.specs.Joined.{AreLeast, joint_of}
-use Rattle.hn_sync.specs.Laws.{QuestionIsPacked, QuestionIsUnique, AsksOrIsRefused}
+use Rattle.hn_world.specs.Replay.{IsSoundWorld}
+use Rattle.hn_sync.specs.Exchange.{unless_joined}
+use Rattle.hn_sync.specs.Laws.{QuestionIsPacked}
 use Rattle.hn_sync.proofs.LeastJoint.{least_from, least_is_one, joint_is}
 
 -- ---- its datagram

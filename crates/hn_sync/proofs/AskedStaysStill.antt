@@ -1,19 +1,7 @@
 -- The router that is asked is still: after the first TLV of the question, what it knows, reaches and says stays.
-use Rattle.std.proofs.Common.{◌≡◌, ◌∙◌, ◌⊎◌, ◌==◌, ℕ, Bool, true, false, cond, List, All, Contains, Option, Some, None, sym, ap, subst, refl, inl, inr}
-use Rattle.std.proofs.lemmas.Bool.{eq-eqb, eqb-true}
-use Rattle.hn_base.proofs.Elements.{any_of, any_from}
-use Rattle.hn_base.proofs.Keys.{same_node}
-use Rattle.hn_base.specs.declared.ids.NodeId.{NodeId}
-use Rattle.hn_data.specs.declared.view.Entry.{Entry}
-use Rattle.hn_dncp.specs.declared.port.Port.{Port}
-use Rattle.hn_own.specs.Own.{links_of}
-use Rattle.hn_rules.specs.declared.answers.Subject.{Subject}
-use Rattle.hn_rules.specs.declared.answers.Subject.TheVariants.{NodeState, NodeData}
-use Rattle.hn_rules.specs.declared.running.Running.{Running}
-use Rattle.hn_rules.specs.declared.state.State.{State}
-use Rattle.hn_rules.specs.Requests.{is_reached, request_node, state_item, with_some_answer}
-use Rattle.hn_store.specs.Laws.{HeldIsOfAnEntry}
-use Rattle.hn_typed.specs.Item.{PlainItem}
+use Rattle.hn_base.proofs.Names.{◌≡◌, ◌∙◌, ◌⊎◌, ℕ, Bool, true, false, cond, List, Contains, Option, Some, None, sym, ap, subst, refl, inl, inr, eq-eqb, eqb-true}
+use Rattle.hn_sync.proofs.Names.{◌==◌, All, any_of, any_from, same_node, NodeId, Entry, Port, links_of, Subject, NodeState, NodeData, Running, State, is_reached, request_node, state_item}
+use Rattle.hn_sync.proofs.Names.{with_some_answer, HeldIsOfAnEntry, PlainItem}
 use Rattle.hn_sync.proofs.Answered.{AnswersAre, More, with_more}
 use Rattle.hn_sync.proofs.NodeStatesSaid.{IsFit, Knows, KnowsNot, knows_or_not, knows_one, item_of, IsSaidOf, Says}
 use Rattle.hn_sync.proofs.NothingToRefresh.{IsQuiet}

@@ -1,23 +1,7 @@
 -- The router that asks, in the middle of an arrival from the one that is asked: what it has learnt, and what it may hope for.
-use Rattle.std.proofs.Common.{◌≡◌, ◌≢◌, ◌∙◌, ◌⊎◌, true, List, [], ◌∷◌, All, Contains, Option, Some, None, sym, ap, subst, refl, inl, inr}
-use Rattle.std.specs.Option.{option_map}
-use Rattle.hn_base.proofs.AscendingLists.{Contains-cases}
-use Rattle.hn_base.specs.declared.ids.NodeId.{NodeId}
-use Rattle.hn_data.specs.declared.view.Entry.{Entry}
-use Rattle.hn_dncp.specs.declared.port.Port.{Port}
-use Rattle.hn_hash.specs.declared.part.Part.{Part}
-use Rattle.hn_rules.specs.declared.answers.Subject.{Subject}
-use Rattle.hn_rules.specs.declared.answers.Subject.TheVariants.{NetworkRequest, NetworkState, NodeRequest, NodeState, NodeData}
-use Rattle.hn_rules.specs.declared.running.Running.{Running}
-use Rattle.hn_rules.specs.declared.state.State.{State}
-use Rattle.hn_rules.specs.Answers.{with_answer}
-use Rattle.hn_rules.specs.Refresh.{IsPublished, IsRefresh}
-use Rattle.hn_store.specs.Acceptance.{IsStale}
-use Rattle.hn_store.specs.Laws.{HeldIsOfAnEntry, MarksKeepTable}
-use Rattle.hn_store.specs.Loss.{loss_marked}
-use Rattle.hn_store.specs.Nodes.{Nodes, held, IsTable}
-use Rattle.hn_store.specs.declared.stored.Stored.{Stored}
-use Rattle.hn_typed.specs.Item.{PlainItem}
+use Rattle.hn_base.proofs.Names.{◌≡◌, ◌≢◌, ◌∙◌, ◌⊎◌, true, List, [], ◌∷◌, Contains, Option, Some, None, sym, ap, subst, refl, inl, inr, option_map}
+use Rattle.hn_sync.proofs.Names.{All, Contains-cases, NodeId, Entry, Port, Part, Subject, NetworkRequest, NetworkState, NodeRequest, NodeState, NodeData, Running, State, with_answer, IsPublished}
+use Rattle.hn_sync.proofs.Names.{IsRefresh, IsStale, HeldIsOfAnEntry, MarksKeepTable, loss_marked, Nodes, held, IsTable, Stored, PlainItem, state_of, HasRoomFor, IsRepaired, is_news}
 use Rattle.hn_typed.specs.Item as item
 use Rattle.hn_sync.proofs.Answered.{AnswersAre, with_more}
 use Rattle.hn_sync.proofs.NodeStatesSaid.{Knows, IsAsked, Asks}
@@ -28,7 +12,6 @@ use Rattle.hn_sync.proofs.Replies.{Ascends}
 use Rattle.hn_sync.proofs.RoomForNodes.{AreOfBoth}
 use Rattle.hn_sync.proofs.Sayings.{Saying}
 use Rattle.hn_sync.proofs.PeersSaid.{signs, Ascend, ascend_from_signs, links_from_signs}
-use Rattle.hn_sync.specs.Repairs.{state_of, HasRoomFor, IsRepaired, is_news}
 
 -- what is said of a node is in the list
 abbrev pub InRest : List Saying → Entry → Type 0

@@ -1,20 +1,7 @@
 -- A list of requests arrives at a router that is still.
-use Rattle.std.proofs.Common.{◌≡◌, ◌∙◌, List, [], ◌∷◌, map, All, Contains, sym, ap, subst, inl, inr}
-use Rattle.std.proofs.lemmas.List.Elements.{All-head, All-tail}
-use Rattle.hn_base.proofs.AscendingLists.{nothing_in, Contains-head, Contains-cases}
-use Rattle.hn_base.specs.declared.ids.NodeId.{NodeId}
-use Rattle.hn_base.specs.Rules.{Then, Each}
-use Rattle.hn_data.specs.declared.view.Entry.{Entry}
-use Rattle.hn_rules.specs.declared.answers.Subject.{Subject}
-use Rattle.hn_rules.specs.declared.answers.Subject.TheVariants.{NetworkRequest, NetworkState, NodeRequest, NodeState, NodeData}
-use Rattle.hn_rules.specs.declared.running.Origin.{Origin}
-use Rattle.hn_rules.specs.declared.running.Running.{Running}
-use Rattle.hn_rules.specs.declared.state.State.{State}
-use Rattle.hn_rules.specs.Arrival.{IsItemRule, IsTlvRule}
-use Rattle.hn_rules.specs.Refresh.{IsRefresh}
-use Rattle.hn_rules.specs.Rules.{IsSole}
-use Rattle.hn_store.specs.Laws.{HeldIsOfAnEntry}
-use Rattle.hn_typed.specs.Item.{PlainItem}
+use Rattle.hn_base.proofs.Names.{◌≡◌, ◌∙◌, List, [], ◌∷◌, map, Contains, sym, ap, subst, inl, inr, All-head, All-tail, Then, Each}
+use Rattle.hn_sync.proofs.Names.{All, nothing_in, Contains-head, Contains-cases, NodeId, Entry, Subject, NetworkRequest, NetworkState, NodeRequest, NodeState, NodeData, Origin, Running, State}
+use Rattle.hn_sync.proofs.Names.{IsItemRule, IsTlvRule, IsRefresh, IsSole, HeldIsOfAnEntry, PlainItem}
 use Rattle.hn_typed.specs.Item as item
 use Rattle.hn_sync.proofs.Answered.{AnswersAre}
 use Rattle.hn_sync.proofs.NodeStatesSaid.{IsFit, Knows, Says, IsAsked, Asks, can_ask}

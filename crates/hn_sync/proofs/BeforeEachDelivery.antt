@@ -1,33 +1,9 @@
 -- An exchange as it goes: what its two routers and its copies are before each delivery.
-use Rattle.std.proofs.Common.{◌≡◌, ◌≢◌, ◌∙◌, ◌<◌, ◌+◌, ◌-◌, ◌^◌, ◌==◌, ℕ, suc, true, false, List, [], ◌∷◌, ◌++◌, length, map, slice_get, slice_set, position, is_some, Contains, Option, Some, None}
-use Rattle.std.proofs.Common.{sym, ap, subst, refl, arith, length-append}
-use Rattle.std.specs.Option.{option_map_or}
-use Rattle.std.proofs.lemmas.Bool.{eq-eqb}
-use Rattle.std.proofs.lemmas.List.Elements.{All-contains}
-use Rattle.std.proofs.lemmas.Option.{same_Some, slice_get_within}
-use Rattle.hn_base.proofs.AscendingLists.{Contains-map}
-use Rattle.hn_base.proofs.PartsAtPlaces.{contains_at}
-use Rattle.hn_base.specs.Addr.{IsLinkLocal}
-use Rattle.hn_base.specs.declared.ids.EpId.{EpId}
-use Rattle.hn_base.specs.declared.ids.NodeId.{NodeId}
-use Rattle.hn_dncp.specs.declared.port.Port.{Port}
-use Rattle.hn_dncp.specs.Peers.{has_peer}
-use Rattle.hn_own.specs.Ports.{endpoints_of, is_attached, port_at}
-use Rattle.hn_router.specs.Act.{Arrive, Happened}
+use Rattle.hn_base.proofs.Names.{◌≡◌, ◌≢◌, ◌∙◌, ◌<◌, ◌+◌, ◌-◌, ◌^◌, ℕ, suc, true, false, List, [], ◌∷◌, ◌++◌, length, map, slice_get, slice_set, position, is_some, Contains, Option, Some, None, sym}
+use Rattle.hn_base.proofs.Names.{ap, subst, refl, arith, length-append, option_map_or, eq-eqb, All-contains, same_Some, slice_get_within, IsLinkLocal}
+use Rattle.hn_sync.proofs.Names.{◌==◌, Contains-map, contains_at, EpId, NodeId, Port, has_peer, endpoints_of, is_attached, port_at, Arrive, Happened, Done, Running, State, begun_at, IsTable}
+use Rattle.hn_sync.proofs.Names.{ListIsUnique, ListHasNoFirstFault, MailCopy, Target, Member, Parts, address_of_target, on_link, is_named, is_on, link_of, IsReplayed, IsSoundMember}
 use Rattle.hn_router.specs.Laws.{MomentIsNow}
-use Rattle.hn_rules.specs.declared.done.Done.{Done}
-use Rattle.hn_rules.specs.declared.running.Running.{Running}
-use Rattle.hn_rules.specs.declared.state.State.{State}
-use Rattle.hn_rules.specs.Rules.{begun_at}
-use Rattle.hn_store.specs.Nodes.{IsTable}
-use Rattle.hn_tlv.specs.Laws.{ListIsUnique, ListHasNoFirstFault}
-use Rattle.hn_world.specs.declared.copies.MailCopy.{MailCopy}
-use Rattle.hn_world.specs.declared.copies.Target.{Target}
-use Rattle.hn_world.specs.declared.member.Member.{Member}
-use Rattle.hn_world.specs.declared.parts.Parts.{Parts}
-use Rattle.hn_world.specs.Mail.{address_of_target, on_link}
-use Rattle.hn_world.specs.Names.{is_named, is_on, link_of}
-use Rattle.hn_world.specs.Replay.{IsReplayed, IsSoundMember}
 use Rattle.hn_sync.proofs.Arrivals.{has_arrived}
 use Rattle.hn_sync.proofs.Between.{HasLaws, HasPorts}
 use Rattle.hn_sync.proofs.NodeStatesSaid.{IsFit}

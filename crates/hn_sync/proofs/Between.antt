@@ -1,44 +1,19 @@
 -- The copies of an exchange go to and fro between its two endpoints.
-use Rattle.std.proofs.Common.{◌≡◌, ◌≢◌, ◌∙◌, ◌⊎◌, ◌<◌, ◌≤◌, ◌+◌, ◌-◌, ◌^◌, ◌==◌, ◌&&◌, ℕ, suc, Bool, true, false, not, cond, List, [], ◌∷◌, ◌++◌, length, filter, slice_get, slice_set, Contains}
-use Rattle.std.proofs.Common.{is_some, Option, Some, None, sym, ap, subst, refl, inl, inr, arith}
-use Rattle.std.specs.Prelude.{◌||◌, is_none, nat_le}
-use Rattle.std.specs.Option.{option_and_then}
-use Rattle.std.proofs.lemmas.Bool.{cases_lt, eqb-true, eq-eqb}
+use Rattle.hn_base.proofs.Names.{◌≡◌, ◌≢◌, ◌∙◌, ◌⊎◌, ◌<◌, ◌≤◌, ◌+◌, ◌-◌, ◌^◌, ℕ, suc, Bool, true, false, not, cond, List, [], ◌∷◌, ◌++◌, length, filter, slice_get, slice_set, Contains, is_some}
+use Rattle.hn_base.proofs.Names.{Option, Some, None, sym, ap, subst, refl, inl, inr, arith, ◌||◌, is_none, nat_le, option_and_then, cases_lt, eqb-true, eq-eqb, All-contains, Contains-append_cases}
+use Rattle.hn_base.proofs.Names.{same_Some, slice_get_within, slice_get_cases, name_text}
+use Rattle.hn_sync.proofs.Names.{◌==◌, ◌&&◌, Addr, EpId, NodeId, Name, Version, nothing_in, Contains-tail, Contains-map, Contains-from_map, from_filter, passing_found, contains_at, Port, datagram_of}
+use Rattle.hn_sync.proofs.Names.{ArePorts, endpoints_of, is_attached, is_port, Arrive, Note, Outgoing, State, MailCopy, Target, Traced, WEvent, Member, Parts, WorldHasItsTrace, WorldHasItsVersion}
+use Rattle.hn_sync.proofs.Names.{address_of_target, on_link_at, on_link, gets, copy_for, copies_on, copies_of_send, copies_of, is_named, is_on, link_of, acting, names_nothing, is_stopped}
+use Rattle.hn_sync.proofs.Names.{lacks_the_endpoint, lacks_a_copy, lacks_room, is_full_of_mail, first_code, refusal, empty_world, Goes, IsReplayed, IsSoundMember, ActsAt, Acts, Delivers, Does, Step}
+use Rattle.hn_sync.proofs.Names.{acted, entered, taken, request, IsQuestion, AreDeliveries, AreOfExchange, next_event, HasPeerAt}
 use Rattle.std.proofs.lemmas.Bool.Decides.{eqb_tells}
-use Rattle.std.proofs.lemmas.List.Elements.{All-contains, Contains-append_cases}
-use Rattle.std.proofs.lemmas.Option.{same_Some, slice_get_within, slice_get_cases}
-use Rattle.hn_base.specs.Name.{name_text}
-use Rattle.hn_base.specs.declared.addr.Addr.{Addr}
-use Rattle.hn_base.specs.declared.ids.EpId.{EpId}
-use Rattle.hn_base.specs.declared.ids.NodeId.{NodeId}
-use Rattle.hn_base.specs.declared.name.Name.{Name}
-use Rattle.hn_base.specs.declared.version.Version.{Version}
-use Rattle.hn_base.proofs.AscendingLists.{nothing_in, Contains-tail, Contains-map, Contains-from_map}
-use Rattle.hn_base.proofs.Elements.{from_filter, passing_found}
-use Rattle.hn_base.proofs.PartsAtPlaces.{contains_at}
-use Rattle.hn_dncp.specs.declared.port.Port.{Port}
-use Rattle.hn_dncp.specs.Packing.{datagram_of}
-use Rattle.hn_own.specs.Ports.{ArePorts, endpoints_of, is_attached, is_port}
-use Rattle.hn_router.specs.Act.{Arrive, is_refused}
+use Rattle.hn_router.specs.Act.{is_refused}
 use Rattle.hn_router.specs.Laws.{EndpointsFollow}
-use Rattle.hn_rules.specs.declared.done.Note.{Note}
-use Rattle.hn_rules.specs.declared.done.Outgoing.{Outgoing}
-use Rattle.hn_rules.specs.declared.state.State.{State}
-use Rattle.hn_world.specs.declared.copies.MailCopy.{MailCopy}
-use Rattle.hn_world.specs.declared.copies.Target.{Target}
-use Rattle.hn_world.specs.declared.event.Traced.{Traced}
-use Rattle.hn_world.specs.declared.event.WEvent.{WEvent}
 use Rattle.hn_world.specs.declared.event.WEvent.TheVariants as event
-use Rattle.hn_world.specs.declared.member.Member.{Member}
-use Rattle.hn_world.specs.declared.parts.Parts.{Parts}
-use Rattle.hn_world.specs.Laws.{WorldIsSound, WorldHasItsTrace, WorldHasItsVersion}
-use Rattle.hn_world.specs.Mail.{address_of_target, on_link_at, on_link, gets, copy_for, copies_on, copies_of_send, copies_of}
-use Rattle.hn_world.specs.Names.{is_named, is_on, link_of}
-use Rattle.hn_world.specs.Refusal.{so_of, copy_at, acting, names_nothing, is_stopped, lacks_the_endpoint, lacks_a_copy, lacks_room, is_full_of_mail, first_code, refusal}
-use Rattle.hn_world.specs.Replay.{empty_world, Goes, Replays, IsReplayed, IsSoundMember}
-use Rattle.hn_world.specs.Step.{ActsAt, Acts, Delivers, Does, Step, acted, entered, taken}
-use Rattle.hn_sync.specs.Exchange.{request, IsQuestion, AreDeliveries, AreOfExchange, next_event}
-use Rattle.hn_sync.specs.Joined.{HasPeerAt}
+use Rattle.hn_world.specs.Laws.{WorldIsSound}
+use Rattle.hn_world.specs.Refusal.{so_of, copy_at}
+use Rattle.hn_world.specs.Replay.{Replays}
 use Rattle.hn_sync.specs.Laws.{StopsForRoomAlone}
 use Rattle.hn_sync.proofs.Answering.{GoesBack, answers_go_back}
 use Rattle.hn_sync.proofs.Delivered.{goes_more, no_delivery, one_delivery}

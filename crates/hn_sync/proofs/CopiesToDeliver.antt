@@ -1,19 +1,8 @@
 -- The copies of an exchange that are not delivered yet, and what they give hope for.
-use Rattle.std.proofs.Common.{◌≡◌, ◌∙◌, ◌⊎◌, ℕ, zero, suc, Bool, true, false, cond, List, [], ◌∷◌, ◌++◌, length, map, slice_get, slice_set, nat_lt, position, All, Contains, Some, None, sym, ap, subst}
-use Rattle.std.proofs.Common.{refl, inl, inr, append_assoc}
-use Rattle.std.specs.List.{position_or_len}
-use Rattle.std.proofs.lemmas.List.Elements.{All-nil, Contains-append_left}
-use Rattle.std.proofs.lemmas.Option.{same_Some}
-use Rattle.hn_base.proofs.AscendingLists.{nothing_in, Contains-head, Contains-tail, Contains-cases}
-use Rattle.hn_data.specs.declared.view.Entry.{Entry}
-use Rattle.hn_rules.specs.declared.running.Running.{Running}
-use Rattle.hn_rules.specs.declared.state.State.{State}
-use Rattle.hn_store.specs.Laws.{HeldIsOfAnEntry, MarksKeepTable}
-use Rattle.hn_store.specs.Nodes.{Nodes, held, IsTable}
-use Rattle.hn_world.specs.declared.copies.Target.{Target}
-use Rattle.hn_world.specs.declared.member.Member.{Member}
-use Rattle.hn_world.specs.Mail.{address_of_target}
-use Rattle.hn_world.specs.Names.{is_named}
+use Rattle.hn_base.proofs.Names.{◌≡◌, ◌∙◌, ◌⊎◌, ℕ, zero, suc, Bool, true, false, cond, List, [], ◌∷◌, ◌++◌, length, map, slice_get, slice_set, nat_lt, position, Contains, Some, None, sym, ap, subst}
+use Rattle.hn_base.proofs.Names.{refl, inl, inr, append_assoc, position_or_len, All-nil, Contains-append_left, same_Some}
+use Rattle.hn_sync.proofs.Names.{All, nothing_in, Contains-head, Contains-tail, Contains-cases, Entry, Running, State, HeldIsOfAnEntry, MarksKeepTable, Nodes, held, IsTable, Target, Member}
+use Rattle.hn_sync.proofs.Names.{address_of_target, is_named}
 use Rattle.hn_sync.proofs.Answered.{AnswersAre}
 use Rattle.hn_sync.proofs.NodeStatesSaid.{Says, Asks}
 use Rattle.hn_sync.proofs.Holding.{before_same, settled_same}

@@ -1,20 +1,10 @@
 -- Deliveries one after another, and the exchange that they are part of.
-use Rattle.std.proofs.Common.{◌≡◌, ◌∙◌, ◌<◌, ◌≤◌, ◌+◌, ℕ, suc, Bool, cond, List, [], ◌∷◌, ◌++◌, length, Option, Some, None, sym, ap, subst, refl, append_assoc, arith}
-use Rattle.std.proofs.lemmas.Bool.{le-leb, lt-leb}
-use Rattle.std.proofs.lemmas.List.{append-nil, length_push}
-use Rattle.hn_base.specs.Words.{IsAt, Took}
-use Rattle.hn_base.specs.declared.name.Name.{Name}
-use Rattle.hn_io.specs.Laws.{WordsJoin}
-use Rattle.hn_rules.specs.declared.done.Note.{Note}
-use Rattle.hn_world.specs.declared.event.Traced.{Traced}
-use Rattle.hn_world.specs.declared.event.WEvent.{WEvent}
+use Rattle.hn_base.proofs.Names.{◌≡◌, ◌∙◌, ◌<◌, ◌≤◌, ◌+◌, ℕ, suc, Bool, cond, List, [], ◌∷◌, ◌++◌, length, Option, Some, None, sym, ap, subst, refl, append_assoc, arith, le-leb, lt-leb, append-nil}
+use Rattle.hn_base.proofs.Names.{length_push, IsAt, Took}
+use Rattle.hn_sync.proofs.Names.{Name, WordsJoin, Note, Traced, WEvent, Parts, EachEventIsEntered, refusal, Goes, words_of_trace, Step, IsStep, IsQuestion, AreDeliveries, AreDelivered, delivery}
+use Rattle.hn_sync.proofs.Names.{ExchangesSoFar}
 use Rattle.hn_world.specs.declared.event.WEvent.TheVariants as event
-use Rattle.hn_world.specs.declared.parts.Parts.{Parts}
-use Rattle.hn_world.specs.Laws.{EachEventIsEntered}
-use Rattle.hn_world.specs.Refusal.{refusal}
-use Rattle.hn_world.specs.Replay.{Goes, words_of_trace}
-use Rattle.hn_world.specs.Step.{Step, IsStep}
-use Rattle.hn_sync.specs.Exchange.{IsQuestion, AreDeliveries, AreDelivered, delivery, IsBegunExchange, ExchangesSoFar, ExchangeStopsAt, IsCutOff}
+use Rattle.hn_sync.specs.Exchange.{IsBegunExchange, ExchangeStopsAt, IsCutOff}
 use Rattle.hn_sync.specs.Laws.{ExchangeIsEntered}
 
 -- ---- the trace

@@ -1,30 +1,9 @@
 -- Each delivery of an exchange keeps what it is as it goes.
-use Rattle.std.proofs.Common.{◌≡◌, ◌∙◌, ◌⊎◌, ◌<◌, ◌+◌, ◌-◌, ◌^◌, ℕ, suc, Bool, true, false, List, [], ◌∷◌, ◌++◌, length, map, slice_get, position, All, Contains, Some, sym, ap, subst, refl, inl, inr}
-use Rattle.std.proofs.Common.{arith}
-use Rattle.std.proofs.lemmas.List.Elements.{All-nil, All-contains, Contains-append_right, Contains-append_cases}
-use Rattle.std.proofs.lemmas.Option.{same_Some}
-use Rattle.hn_base.proofs.AscendingLists.{nothing_in, Contains-head, Contains-tail, Contains-cases}
-use Rattle.hn_base.proofs.Elements.{all_of}
-use Rattle.hn_base.specs.declared.addr.Addr.{Addr}
-use Rattle.hn_data.specs.declared.view.Entry.{Entry}
-use Rattle.hn_hash.specs.declared.part.Part.{Part}
-use Rattle.hn_router.specs.Act.{Arrive, Happened}
-use Rattle.hn_rules.specs.declared.done.Done.{Done}
-use Rattle.hn_rules.specs.declared.done.Note.{Note}
-use Rattle.hn_rules.specs.declared.state.State.{State}
-use Rattle.hn_rules.specs.Refresh.{IsPublished}
-use Rattle.hn_rules.specs.Rules.{begun_at}
-use Rattle.hn_store.specs.Acceptance.{IsStale}
-use Rattle.hn_world.specs.declared.copies.MailCopy.{MailCopy}
-use Rattle.hn_world.specs.declared.copies.Target.{Target}
-use Rattle.hn_world.specs.declared.event.Traced.{Traced}
-use Rattle.hn_world.specs.declared.event.WEvent.{WEvent}
-use Rattle.hn_world.specs.declared.member.Member.{Member}
-use Rattle.hn_world.specs.declared.parts.Parts.{Parts}
-use Rattle.hn_world.specs.Mail.{address_of_target, copies_of}
-use Rattle.hn_world.specs.Names.{is_named, link_of}
-use Rattle.hn_world.specs.Replay.{Goes, IsReplayed}
-use Rattle.hn_world.specs.Step.{ActsAt, Delivers, Does, acted, entered, taken}
+use Rattle.hn_base.proofs.Names.{◌≡◌, ◌∙◌, ◌⊎◌, ◌<◌, ◌+◌, ◌-◌, ◌^◌, ℕ, suc, Bool, true, false, List, [], ◌∷◌, ◌++◌, length, map, slice_get, position, Contains, Some, sym, ap, subst, refl, inl, inr}
+use Rattle.hn_base.proofs.Names.{arith, All-nil, All-contains, Contains-append_right, Contains-append_cases, same_Some}
+use Rattle.hn_sync.proofs.Names.{All, nothing_in, Contains-head, Contains-tail, Contains-cases, all_of, Addr, Entry, Part, Arrive, Happened, Done, Note, State, IsPublished, begun_at, IsStale}
+use Rattle.hn_sync.proofs.Names.{MailCopy, Target, Traced, WEvent, Member, Parts, address_of_target, copies_of, is_named, link_of, Goes, IsReplayed, ActsAt, Delivers, Does, acted, entered, taken}
+use Rattle.hn_sync.proofs.Names.{AreDeliveries, state_of}
 use Rattle.hn_sync.proofs.Between.{replayed_more}
 use Rattle.hn_sync.proofs.NodeStatesSaid.{Says, Asks}
 use Rattle.hn_sync.proofs.BeforeEachDelivery.{GoingLaws, known_there, IsPair, IsGoing, copies_taken, first_letter, here_then, other_then, ports_of, on_link_of}
@@ -35,8 +14,6 @@ use Rattle.hn_sync.proofs.CopiesToDeliver.{no_answers, place_set, ToAsker, ToAsk
 use Rattle.hn_sync.proofs.Sayings.{Saying, in_whole}
 use Rattle.hn_sync.proofs.PeersSaid.{signs}
 use Rattle.hn_sync.proofs.TurnsOfExchange.{IsReplied, IsTaught}
-use Rattle.hn_sync.specs.Exchange.{AreDeliveries}
-use Rattle.hn_sync.specs.Repairs.{state_of}
 
 part_all : (P : Saying → Type 0) (whole part : List Saying) → ((s : Saying) → Contains part s → Contains whole s) → All P whole → All P part
 part_all P whole part within all = all_of P part (λ s there. All-contains P whole s all (within s there))

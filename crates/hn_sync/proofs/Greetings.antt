@@ -1,32 +1,14 @@
 -- What a router does when it hears a peer that it knows: nothing that its peers and its node data would show.
-use Rattle.std.proofs.Common.{◌≡◌, ◌∙◌, ◌⊎◌, ◌<◌, ◌≤◌, ◌^◌, ◌==◌, ℕ, Bool, true, false, cond, List, [], length, Contains, Option, Some, None, is_some, sym, ap, subst, refl, inl, inr}
-use Rattle.std.specs.Option.{option_map_or}
-use Rattle.std.specs.Str.{bytes_eq}
-use Rattle.std.proofs.lemmas.Bool.{cond_both}
-use Rattle.std.proofs.lemmas.List.{length-map}
-use Rattle.std.proofs.lemmas.List.Elements.{All-contains}
-use Rattle.hn_base.proofs.AscendingLists.{Contains-map, Contains-from_map}
-use Rattle.hn_base.proofs.Elements.{all_of}
-use Rattle.hn_base.specs.declared.ids.EpId.{EpId}
-use Rattle.hn_base.specs.declared.ids.NodeId.{NodeId}
-use Rattle.hn_base.specs.Rules.{OnSome}
+use Rattle.hn_base.proofs.Names.{◌≡◌, ◌∙◌, ◌⊎◌, ◌<◌, ◌≤◌, ◌^◌, ℕ, Bool, true, false, cond, List, [], length, Contains, Option, Some, None, is_some, sym, ap, subst, refl, inl, inr, option_map_or}
+use Rattle.hn_base.proofs.Names.{bytes_eq, cond_both, length-map, All-contains, OnSome}
+use Rattle.hn_sync.proofs.Names.{◌==◌, Contains-map, Contains-from_map, all_of, EpId, NodeId, Neighbour, Port, hashed, has_peer, ArePorts, port_at, NetworkRequest, Note, Origin, Running, with_answer}
+use Rattle.hn_sync.proofs.Names.{network_state, named, met, node_endpoint, AtPort, noted, RequestNetwork}
 use Rattle.hn_dncp.specs.declared.greet.Greet.TheVariants.{Known, Unknown, Full, Added}
-use Rattle.hn_dncp.specs.declared.peers.Neighbour.{Neighbour}
-use Rattle.hn_dncp.specs.declared.port.Port.{Port}
 use Rattle.hn_dncp.specs.Greet as greet
-use Rattle.hn_dncp.specs.Hash.{hashed, asks_for_state}
-use Rattle.hn_dncp.specs.Peers.{has_peer}
-use Rattle.hn_own.specs.Ports.{ArePorts, port_at}
-use Rattle.hn_rules.specs.declared.answers.Subject.TheVariants.{NetworkRequest}
-use Rattle.hn_rules.specs.declared.done.Note.{Note}
+use Rattle.hn_dncp.specs.Hash.{asks_for_state}
 use Rattle.hn_rules.specs.declared.done.Note.TheVariants as note
-use Rattle.hn_rules.specs.declared.running.Origin.{Origin}
-use Rattle.hn_rules.specs.declared.running.Running.{Running}
-use Rattle.hn_rules.specs.Answers.{with_answer}
-use Rattle.hn_rules.specs.NetworkState.{network_state}
-use Rattle.hn_rules.specs.NodeEndpoint.{greeting_port, named, met, node_endpoint}
-use Rattle.hn_rules.specs.Rules.{AtPort, noted, with_port}
-use Rattle.hn_typed.specs.Item.{RequestNetwork}
+use Rattle.hn_rules.specs.NodeEndpoint.{greeting_port}
+use Rattle.hn_rules.specs.Rules.{with_port}
 use Rattle.hn_sync.proofs.PeersSaid.{sign, signs, Ascend, signs_put, met_signs, hashed_sign, knows_at, endpoints_from_signs, ascend_from_signs}
 
 -- endpoints change, but for what their signs say, the sender is named and notes are taken

@@ -1,28 +1,13 @@
 -- What comes of a true state of a node at the router that asked: its node is repaired, or its data are asked for.
-use Rattle.std.proofs.Common.{◌≡◌, ◌≢◌, ◌∙◌, ◌⊎◌, ◌<◌, ◌≤◌, ◌==◌, ℕ, Bool, true, false, cond, List, [], ◌∷◌, length, map, find, Option, Some, None, sym, ap, subst, refl, inl, inr, arith}
-use Rattle.std.specs.Option.{option_map}
-use Rattle.std.proofs.lemmas.Bool.{cases_eq, eq-eqb, eqb-true, ne_eqb, cond-false}
-use Rattle.std.proofs.lemmas.List.Elements.{All-contains}
-use Rattle.hn_base.specs.Causes.{LineElse}
-use Rattle.hn_base.specs.Order.{IsOlder}
-use Rattle.hn_base.specs.declared.ids.NodeId.{NodeId}
-use Rattle.hn_data.specs.declared.view.Entry.{Entry}
-use Rattle.hn_hash.specs.Hash.{hash_of}
-use Rattle.hn_hash.specs.declared.part.Part.{Part}
-use Rattle.hn_rules.specs.declared.state.State.{State}
-use Rattle.hn_rules.specs.Requests.{sent_age, sent_data}
-use Rattle.hn_store.specs.Acceptance.{PlainState, known_of, held_part, CarriesData, HasWrongHash, IsStale, IsNews, IsAnswer, stored_from, stored_renumbered, entries_changed, entries_after, Accepts}
-use Rattle.hn_store.specs.Laws.{PutChangesOneNode, HeldIsOfAnEntry}
-use Rattle.hn_store.specs.Loss.{is_among, lost_after, marked_node, loss_marked}
-use Rattle.hn_store.specs.Nodes.{Nodes, held, put, stored_part, IsTable, IsIntact}
-use Rattle.hn_store.specs.declared.state.OwnLeaf.{OwnLeaf}
-use Rattle.hn_store.specs.declared.state.Took.{Took}
+use Rattle.hn_base.proofs.Names.{◌≡◌, ◌≢◌, ◌∙◌, ◌⊎◌, ◌<◌, ◌≤◌, ℕ, Bool, true, false, cond, List, [], ◌∷◌, length, map, Option, Some, None, sym, ap, subst, refl, inl, inr, arith, option_map, cases_eq}
+use Rattle.hn_base.proofs.Names.{eq-eqb, eqb-true, ne_eqb, cond-false, All-contains, LineElse, IsOlder}
+use Rattle.hn_sync.proofs.Names.{◌==◌, find, NodeId, Entry, hash_of, Part, State, sent_age, sent_data, PlainState, known_of, IsStale, entries_after, PutChangesOneNode, HeldIsOfAnEntry, loss_marked}
+use Rattle.hn_sync.proofs.Names.{Nodes, held, IsTable, IsIntact, OwnLeaf, Took, HeldNode, Stored, HasTlvs, IsRepaired}
+use Rattle.hn_store.specs.Acceptance.{held_part, CarriesData, HasWrongHash, IsNews, IsAnswer, stored_from, stored_renumbered, entries_changed, Accepts}
+use Rattle.hn_store.specs.Loss.{is_among, lost_after, marked_node}
+use Rattle.hn_store.specs.Nodes.{put, stored_part}
 use Rattle.hn_store.specs.declared.state.Took.TheVariants as took
-use Rattle.hn_store.specs.declared.stored.HeldNode.{HeldNode}
-use Rattle.hn_store.specs.declared.stored.Stored.{Stored}
-use Rattle.hn_tlv.specs.Grammar.{HasTlvs}
 use Rattle.hn_sync.proofs.NodeStatesSaid.{IsEntry}
-use Rattle.hn_sync.specs.Repairs.{IsRepaired}
 
 -- ---- two texts are one, or not
 

@@ -1,17 +1,7 @@
 -- The least endpoints by which two routers are joined.
-use Rattle.std.proofs.Common.{◌≡◌, ◌∙◌, ◌==◌, ◌&&◌, ℕ, Bool, true, false, List, Option, Some, None, Contains, ap, refl, arith}
-use Rattle.std.specs.Option.{option_map_or}
-use Rattle.std.proofs.lemmas.Bool.{eqb-true, eq-eqb}
-use Rattle.hn_base.specs.declared.ids.EpId.{EpId}
-use Rattle.hn_base.specs.declared.ids.NodeId.{NodeId}
-use Rattle.hn_base.proofs.Elements.{found_passes}
-use Rattle.hn_dncp.specs.declared.port.Port.{Port}
-use Rattle.hn_dncp.specs.Peers.{has_peer}
-use Rattle.hn_own.specs.Ports.{ArePorts, is_port, port_at}
-use Rattle.hn_rules.specs.declared.state.State.{State}
-use Rattle.hn_world.specs.declared.member.Member.{Member}
-use Rattle.hn_world.specs.Names.{link_of}
-use Rattle.hn_sync.specs.Joined.{HasPeerAt, AreJoined, AreLeast, has_peer_at, are_joined, joint_of}
+use Rattle.hn_base.proofs.Names.{◌≡◌, ◌∙◌, ℕ, Bool, true, false, List, Option, Some, None, Contains, ap, refl, arith, option_map_or, eqb-true, eq-eqb}
+use Rattle.hn_sync.proofs.Names.{◌==◌, ◌&&◌, EpId, NodeId, found_passes, Port, has_peer, ArePorts, is_port, port_at, State, Member, link_of, HasPeerAt, AreLeast, joint_of}
+use Rattle.hn_sync.specs.Joined.{AreJoined, has_peer_at, are_joined}
 use Rattle.hn_sync.specs.Laws.{JointIsLeast, NoJointWhereNoneJoined}
 use Rattle.hn_sync.proofs.LeastPair.{Passes, same_endpoint, no_joint, joint_passes, joint_is_first}
 

@@ -1,17 +1,9 @@
 -- The least of the pairs of endpoints that pass a test, from two lists in ascending order.
-use Rattle.std.proofs.Common.{◌≡◌, ◌≤◌, ◌<◌, ◌∙◌, ◌⊎◌, ℕ, Bool, true, false, cond, List, [], ◌∷◌, map, find, is_some, option_and_then, Option, Some, None, Contains, sym, ap, subst, refl, inl, inr}
-use Rattle.std.proofs.Common.{arith}
-use Rattle.std.specs.declared.cmp.Ordering.TheVariants.{Less}
+use Rattle.hn_base.proofs.Names.{◌≡◌, ◌≤◌, ◌<◌, ◌∙◌, ◌⊎◌, ℕ, Bool, true, false, cond, List, [], ◌∷◌, map, is_some, Option, Some, None, Contains, sym, ap, subst, refl, inl, inr, arith, Less}
+use Rattle.hn_base.proofs.Names.{option_map, nat_cmp, cases_lt, All-from_recursion, All-contains, same_Some}
+use Rattle.hn_sync.proofs.Names.{find, EpId, nothing_in, Contains-cases, Contains-map, lt_from_less, found_passes, passing_found}
+use Rattle.std.proofs.Common.{option_and_then}
 use Rattle.std.specs.List.Sorted.{IsStrictlySortedBy}
-use Rattle.std.specs.Option.{option_map}
-use Rattle.std.specs.Ordering.{nat_cmp}
-use Rattle.std.proofs.lemmas.Bool.{cases_lt}
-use Rattle.std.proofs.lemmas.List.Elements.{All-from_recursion, All-contains}
-use Rattle.std.proofs.lemmas.Option.{same_Some}
-use Rattle.hn_base.specs.declared.ids.EpId.{EpId}
-use Rattle.hn_base.proofs.AscendingLists.{nothing_in, Contains-cases, Contains-map}
-use Rattle.hn_base.proofs.AscendingNumbers.{lt_from_less}
-use Rattle.hn_base.proofs.Elements.{found_passes, passing_found}
 
 -- in a list that ascends by numbers, what is found is the least that passes
 found_is_least : {X : Type 0} (number : X → ℕ) (test : X → Bool) (xs : List X) (x y : X) → IsStrictlySortedBy nat_cmp (map number xs)

@@ -1,3 +1,4 @@
+mod Names
 mod ListsFromLists
 mod LeastPair
 mod LeastJoint

@@ -1,12 +1,7 @@
 -- Elements of lists that were made of others.
-use Rattle.std.proofs.Common.{◌≡◌, ◌≢◌, ◌∙◌, ◌⊎◌, ℕ, zero, suc, Bool, true, false, cond, List, [], ◌∷◌, ◌++◌, length, find, position, slice_get, slice_set, nat_lt, Contains, Option, Some, None, sym}
-use Rattle.std.proofs.Common.{ap, refl, inl, inr}
-use Rattle.std.specs.List.{flat_map, position_or_len}
-use Rattle.std.proofs.lemmas.List.Elements.{Contains-append_cases}
-use Rattle.std.proofs.lemmas.List.Folds.{find_at}
-use Rattle.std.proofs.lemmas.Option.{same_Some}
-use Rattle.hn_base.proofs.AscendingLists.{nothing_in, Contains-head, Contains-tail}
-use Rattle.hn_base.proofs.PartsAtPlaces.{contains_at}
+use Rattle.hn_base.proofs.Names.{◌≡◌, ◌≢◌, ◌∙◌, ◌⊎◌, ℕ, zero, suc, Bool, true, false, cond, List, [], ◌∷◌, ◌++◌, length, position, slice_get, slice_set, nat_lt, Contains, Option, Some, None, sym, ap}
+use Rattle.hn_base.proofs.Names.{refl, inl, inr, flat_map, position_or_len, Contains-append_cases, find_at, same_Some}
+use Rattle.hn_sync.proofs.Names.{find, nothing_in, Contains-head, Contains-tail, contains_at}
 
 -- an element that was put, and the others
 pub set_is : {A : Type 0} (xs : List A) (i : ℕ) (x y : A) → slice_get xs i ≡ Some x → slice_get (slice_set xs i y) i ≡ Some y

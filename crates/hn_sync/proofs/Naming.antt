@@ -1,34 +1,19 @@
 -- The router that asks hears of its own identifier, and may draw a new one.
-use Rattle.std.proofs.Common.{◌≡◌, ◌≢◌, ◌∙◌, ◌⊎◌, ◌<◌, ◌≤◌, ◌+◌, ◌-◌, ◌%◌, ◌^◌, ◌==◌, ◌||◌, ℕ, Bool, true, false, List, [], ◌∷◌, Contains, Option, Some, None, is_some, sym, ap, subst, refl, inl, inr}
-use Rattle.std.proofs.Common.{arith}
-use Rattle.std.proofs.lemmas.Bool.{or_parts, eqb-false, eq-eqb, cond-true}
-use Rattle.hn_base.proofs.AscendingLists.{Contains-head, Contains-tail}
-use Rattle.hn_base.specs.declared.ids.NodeId.{NodeId}
-use Rattle.hn_data.specs.declared.view.Entry.{Entry}
-use Rattle.hn_hash.specs.declared.part.Part.{Part}
-use Rattle.hn_rules.specs.declared.answers.Subject.{Subject}
-use Rattle.hn_rules.specs.declared.answers.Subject.TheVariants.{NetworkState, NodeRequest, NodeState}
+use Rattle.hn_base.proofs.Names.{◌≡◌, ◌≢◌, ◌∙◌, ◌⊎◌, ◌<◌, ◌≤◌, ◌+◌, ◌-◌, ◌%◌, ◌^◌, ℕ, Bool, true, false, List, [], ◌∷◌, Contains, Option, Some, None, is_some, sym, ap, subst, refl, inl, inr, arith}
+use Rattle.hn_base.proofs.Names.{or_parts, eqb-false, eq-eqb, cond-true}
+use Rattle.hn_sync.proofs.Names.{◌==◌, Contains-head, Contains-tail, NodeId, Entry, Part, Subject, NetworkState, NodeRequest, NodeState, Running, with_answer, IsClaim, own_leaf, took_noted, IsTaken}
+use Rattle.hn_sync.proofs.Names.{IsNodeState, IsRefresh, noted, PlainState, known_of, IsStale, Nodes, held, OwnLeaf, Took, RequestNode, state_of}
+use Rattle.std.proofs.Common.{◌||◌}
 use Rattle.hn_rules.specs.declared.done.Note.TheVariants as note
-use Rattle.hn_rules.specs.declared.running.Running.{Running}
-use Rattle.hn_rules.specs.Answers.{with_answer}
-use Rattle.hn_rules.specs.Claim.{IsSecondClaim, IsClaim}
-use Rattle.hn_rules.specs.Nodes.{own_leaf}
-use Rattle.hn_rules.specs.NodeState.{took_noted, IsTaken, IsNodeState}
-use Rattle.hn_rules.specs.Refresh.{IsRefresh}
-use Rattle.hn_rules.specs.Rules.{noted}
-use Rattle.hn_store.specs.Acceptance.{PlainState, known_of, IsStale, IsAnswer}
-use Rattle.hn_store.specs.Nodes.{Nodes, held}
-use Rattle.hn_store.specs.declared.state.OwnLeaf.{OwnLeaf}
-use Rattle.hn_store.specs.declared.state.Took.{Took}
+use Rattle.hn_rules.specs.Claim.{IsSecondClaim}
+use Rattle.hn_store.specs.Acceptance.{IsAnswer}
 use Rattle.hn_store.specs.declared.state.Took.TheVariants as took
-use Rattle.hn_typed.specs.Item.{RequestNode}
 use Rattle.hn_sync.proofs.NodeStatesSaid.{IsEntry}
 use Rattle.hn_sync.proofs.Holding.{state_said, said_short, said_right}
 use Rattle.hn_sync.proofs.NothingToRefresh.{IsRefreshing, refresh_leaves}
 use Rattle.hn_sync.proofs.Replies.{Below, Ascends}
 use Rattle.hn_sync.proofs.Sayings.{Saying}
 use Rattle.hn_sync.proofs.PeersSaid.{Ascend, ascend_from_signs}
-use Rattle.hn_sync.specs.Repairs.{state_of}
 
 -- ---- what the table answers
 

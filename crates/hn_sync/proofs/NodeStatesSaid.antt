@@ -1,29 +1,12 @@
 -- What a router knows of a node, and the Node States that it says of it.
-use Rattle.std.proofs.Common.{◌≡◌, ◌∙◌, ◌<◌, ◌≤◌, ◌^◌, ◌-◌, ◌==◌, ◌⊎◌, ℕ, Bool, true, false, List, [], length, All, Contains, Option, Some, None, sym, ap, subst, refl, inl, inr, arith}
-use Rattle.std.proofs.lemmas.Bool.{eqb-true}
-use Rattle.std.proofs.lemmas.List.Elements.{All-nil, All-contains}
-use Rattle.std.proofs.lemmas.Option.{same_Some}
-use Rattle.hn_base.proofs.Keys.{same_node}
-use Rattle.hn_base.specs.Byte.{IsByte}
-use Rattle.hn_base.specs.declared.ids.NodeId.{NodeId}
-use Rattle.hn_data.specs.declared.view.Entry.{Entry}
-use Rattle.hn_hash.specs.Hash.{hash_of}
+use Rattle.hn_base.proofs.Names.{◌≡◌, ◌∙◌, ◌<◌, ◌≤◌, ◌^◌, ◌-◌, ◌⊎◌, ℕ, Bool, true, false, List, [], length, Contains, Option, Some, None, sym, ap, subst, refl, inl, inr, arith, eqb-true, All-nil}
+use Rattle.hn_base.proofs.Names.{All-contains, same_Some, IsByte}
+use Rattle.hn_sync.proofs.Names.{◌==◌, All, same_node, NodeId, Entry, hash_of, Subject, NetworkRequest, NetworkState, NodeRequest, NodeState, NodeData, State, held_entry, own_entry, entry_of}
+use Rattle.hn_sync.proofs.Names.{sent_age, sent_data, state_item, HeldIsOfAnEntry, held, IsTable, IsIntact, HeldNode, Stored, HasTlvs, ListIsOfBytes, IsHash, PlainItem}
 use Rattle.hn_hash.specs.Laws.{HashHasEightBytes}
 use Rattle.hn_own.specs.Own.{IsOwnData}
-use Rattle.hn_rules.specs.declared.answers.Subject.{Subject}
-use Rattle.hn_rules.specs.declared.answers.Subject.TheVariants.{NetworkRequest, NetworkState, NodeRequest, NodeState, NodeData}
-use Rattle.hn_rules.specs.declared.state.State.{State}
-use Rattle.hn_rules.specs.Nodes.{held_entry, own_entry, entry_of}
-use Rattle.hn_rules.specs.Requests.{sent_age, sent_data, own_state, state_item}
+use Rattle.hn_rules.specs.Requests.{own_state}
 use Rattle.hn_rules.specs.Router.{IsNumbered}
-use Rattle.hn_store.specs.Laws.{HeldIsOfAnEntry}
-use Rattle.hn_store.specs.Nodes.{held, IsTable, IsIntact}
-use Rattle.hn_store.specs.declared.stored.HeldNode.{HeldNode}
-use Rattle.hn_store.specs.declared.stored.Stored.{Stored}
-use Rattle.hn_tlv.specs.Grammar.{HasTlvs}
-use Rattle.hn_tlv.specs.Laws.{ListIsOfBytes}
-use Rattle.hn_typed.specs.Fields.{IsHash}
-use Rattle.hn_typed.specs.Item.{PlainItem}
 use Rattle.hn_typed.specs.Item as item
 use Rattle.hn_sync.proofs.Sayings.{CanBeSaid, can_say_request, can_say_node_request, can_say_network, can_say_state, Saying}
 

@@ -1,22 +1,12 @@
 -- A router for which a refresh has nothing to do, and what a refresh leaves as it was.
-use Rattle.std.proofs.Common.{◌≡◌, ◌∙◌, ◌-◌, ◌<◌, ◌+◌, ◌^◌, ℕ, List, [], ◌∷◌, ◌++◌, length, Option, Some, None, sym, ap, subst, refl, inl, inr, arith, length-append}
+use Rattle.hn_base.proofs.Names.{◌≡◌, ◌∙◌, ◌-◌, ◌<◌, ◌+◌, ◌^◌, ℕ, List, [], ◌∷◌, ◌++◌, length, Option, Some, None, sym, ap, subst, refl, inl, inr, arith, length-append, Each, OnSome, Begins}
+use Rattle.hn_sync.proofs.Names.{EpId, NodeId, Port, links_of, ArePorts, endpoints_of, port_at, Done, Running, State, RefreshRests, IsPublished, IsPublishing, IsReaching, IsPortReset, IsHashing}
+use Rattle.hn_sync.proofs.Names.{IsRefresh, AtPort, IsSole, loss_marked}
 use Rattle.std.specs.Prelude.{slice_index}
-use Rattle.hn_base.specs.declared.ids.EpId.{EpId}
-use Rattle.hn_base.specs.declared.ids.NodeId.{NodeId}
-use Rattle.hn_base.specs.Rules.{Each, OnSome}
-use Rattle.hn_base.specs.Words.{Begins}
-use Rattle.hn_dncp.specs.declared.port.Port.{Port}
-use Rattle.hn_own.specs.Own.{PlainData, links_of}
-use Rattle.hn_own.specs.Ports.{ArePorts, endpoints_of, port_at}
-use Rattle.hn_rules.specs.declared.done.Done.{Done}
+use Rattle.hn_own.specs.Own.{PlainData}
 use Rattle.hn_rules.specs.declared.done.Publication.{Publication}
-use Rattle.hn_rules.specs.declared.running.Running.{Running}
-use Rattle.hn_rules.specs.declared.state.State.{State}
-use Rattle.hn_rules.specs.Laws.{RefreshRests}
 use Rattle.hn_rules.specs.Nodes.{IsReach}
-use Rattle.hn_rules.specs.Refresh.{own_items, IsPublished, IsPublishing, IsReaching, network_state_hash, IsPortReset, IsHashing, IsRefresh}
-use Rattle.hn_rules.specs.Rules.{AtPort, IsSole}
-use Rattle.hn_store.specs.Loss.{loss_marked}
+use Rattle.hn_rules.specs.Refresh.{own_items, network_state_hash}
 use Rattle.hn_sync.proofs.PeersSaid.{signs, Ascend, signs_put, ascend_from_signs, links_from_signs}
 
 -- ---- the network state hash is made anew

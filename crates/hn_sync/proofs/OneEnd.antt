@@ -1,24 +1,14 @@
 -- Over one stream of words an exchange ends in at most one way.
-use Rattle.std.proofs.Common.{◌≡◌, ◌∙◌, ◌<◌, ◌+◌, ◌-◌, ◌==◌, ℕ, suc, Bool, true, false, cond, List, [], ◌∷◌, length, slice_get, Option, Some, None, sym, ap, subst, refl, inl, inr, arith}
-use Rattle.std.specs.Prelude.{◌||◌, is_none, nat_le}
-use Rattle.std.proofs.lemmas.Bool.{cases_lt}
+use Rattle.hn_base.proofs.Names.{◌≡◌, ◌∙◌, ◌<◌, ◌+◌, ◌-◌, ℕ, suc, Bool, true, false, cond, List, [], ◌∷◌, length, slice_get, Option, Some, None, sym, ap, subst, refl, inl, inr, arith, ◌||◌, is_none}
+use Rattle.hn_base.proofs.Names.{nat_le, cases_lt, same_Some, slice_get_past, Begins, IsAt}
+use Rattle.hn_sync.proofs.Names.{◌==◌, Name, Note, Traced, WEvent, Parts, EachEventIsEntered, acting, names_nothing, is_stopped, lacks_the_endpoint, lacks_a_copy, lacks_room, is_full_of_mail}
+use Rattle.hn_sync.proofs.Names.{first_code, refusal, Goes, words_of_trace, Step, IsStep, IsQuestion, AreDeliveries, AreOfExchange, delivery, next_event, ExchangeEnds, QuestionIsUnique}
 use Rattle.std.proofs.lemmas.List.{append_cancel_left}
-use Rattle.std.proofs.lemmas.Option.{same_Some, slice_get_past}
-use Rattle.hn_base.specs.Words.{Begins, IsAt}
-use Rattle.hn_base.specs.declared.name.Name.{Name}
 use Rattle.hn_base.proofs.FirstWords.{begins_front, begins_back}
 use Rattle.hn_base.proofs.FrontOfList.{head_is}
-use Rattle.hn_rules.specs.declared.done.Note.{Note}
-use Rattle.hn_world.specs.declared.event.Traced.{Traced}
-use Rattle.hn_world.specs.declared.event.WEvent.{WEvent}
 use Rattle.hn_world.specs.declared.event.WEvent.TheVariants as event
-use Rattle.hn_world.specs.declared.parts.Parts.{Parts}
-use Rattle.hn_world.specs.Laws.{StepIsUnique, EachEventIsEntered}
-use Rattle.hn_world.specs.Refusal.{acting, names_nothing, is_stopped, lacks_the_endpoint, lacks_a_copy, lacks_room, is_full_of_mail, first_code, refusal}
-use Rattle.hn_world.specs.Replay.{Goes, words_of_trace}
-use Rattle.hn_world.specs.Step.{Step, IsStep}
-use Rattle.hn_sync.specs.Exchange.{IsQuestion, AreDeliveries, AreOfExchange, delivery, next_event, ExchangeEnds}
-use Rattle.hn_sync.specs.Laws.{QuestionIsUnique, ExchangeIsUnique}
+use Rattle.hn_world.specs.Laws.{StepIsUnique}
+use Rattle.hn_sync.specs.Laws.{ExchangeIsUnique}
 use Rattle.hn_sync.proofs.Delivered.{one_delivery}
 use Rattle.hn_sync.proofs.WordsOfStream.{took_first, first_told}
 

@@ -1,25 +1,16 @@
 -- What a router says of its peers, and by whom it knows an endpoint, rests on the numbers of its endpoints and on whom
 -- their peers are: the signs of its endpoints.
-use Rattle.std.proofs.Common.{◌≡◌, ◌∙◌, ◌==◌, ◌&&◌, ℕ, Bool, true, false, cond, List, [], ◌∷◌, map, find, Contains, Option, Some, None, sym, ap, subst, refl}
-use Rattle.std.specs.List.{flat_map, list_any}
-use Rattle.std.specs.List.Sorted.{IsStrictlySortedBy}
-use Rattle.std.specs.Option.{option_map_or}
-use Rattle.std.specs.Ordering.{nat_cmp}
-use Rattle.std.proofs.lemmas.Bool.{and_parts, cond_both, eqb-true}
-use Rattle.std.proofs.lemmas.Cmp.{nat_cmp_total}
-use Rattle.hn_base.specs.declared.ids.EpId.{EpId}
-use Rattle.hn_base.specs.declared.ids.NodeId.{NodeId}
-use Rattle.hn_base.proofs.AscendingLists.{Contains-head, Contains-tail, sorted_parts}
-use Rattle.hn_base.proofs.Elements.{found_passes}
+use Rattle.hn_base.proofs.Names.{◌≡◌, ◌∙◌, ℕ, Bool, true, false, cond, List, [], ◌∷◌, map, Contains, Option, Some, None, sym, ap, subst, refl, flat_map, list_any, IsStrictlySortedBy, option_map_or}
+use Rattle.hn_base.proofs.Names.{nat_cmp, and_parts, cond_both, eqb-true, nat_cmp_total}
+use Rattle.hn_sync.proofs.Names.{◌==◌, ◌&&◌, find, EpId, NodeId, Contains-head, Contains-tail, found_passes, Neighbour, Port, hashed, has_peer, links_of, endpoints_of, is_port, port_at}
+use Rattle.hn_base.proofs.AscendingLists.{sorted_parts}
 use Rattle.hn_base.proofs.PartsAtPlaces.{one_of_ascending}
 use Rattle.hn_data.specs.declared.said.PeerLink.{PeerLink}
-use Rattle.hn_dncp.specs.declared.peers.Neighbour.{Neighbour}
-use Rattle.hn_dncp.specs.declared.port.Port.{Port}
 use Rattle.hn_dncp.specs.Greet.{peers_heard}
-use Rattle.hn_dncp.specs.Hash.{contacted, hashed}
-use Rattle.hn_dncp.specs.Peers.{is_peer, has_peer}
-use Rattle.hn_own.specs.Own.{links_at, links_of}
-use Rattle.hn_own.specs.Ports.{number, endpoints_of, is_port, port_at, put_port}
+use Rattle.hn_dncp.specs.Hash.{contacted}
+use Rattle.hn_dncp.specs.Peers.{is_peer}
+use Rattle.hn_own.specs.Own.{links_at}
+use Rattle.hn_own.specs.Ports.{number, put_port}
 
 -- the endpoint of a node that a peer is
 abbrev pub who : Neighbour → NodeId × EpId

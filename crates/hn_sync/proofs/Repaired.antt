@@ -1,41 +1,13 @@
 -- One exchange repairs.
-use Rattle.std.proofs.Common.{◌≡◌, ◌≢◌, ◌∙◌, ◌<◌, ◌≤◌, ◌+◌, ◌==◌, ℕ, suc, Bool, true, false, cond, List, [], ◌∷◌, ◌++◌, length, map, find, position, slice_get, nat_le, Contains, Option, Some, None}
-use Rattle.std.proofs.Common.{sym, ap, subst, refl, inl, inr, arith, length-append}
-use Rattle.std.specs.Option.{option_map}
-use Rattle.std.proofs.lemmas.Bool.{cases_eq, leb-false}
-use Rattle.std.proofs.lemmas.List.{length-map}
-use Rattle.std.proofs.lemmas.List.Elements.{All-contains}
-use Rattle.std.proofs.lemmas.List.Folds.{find_at}
-use Rattle.std.proofs.lemmas.Option.{same_Some}
-use Rattle.std.proofs.lemmas.Slice.Eq.{bytes_eq-Decides}
-use Rattle.hn_base.proofs.AscendingLists.{nothing_in}
-use Rattle.hn_base.proofs.Elements.{found_passes, from_filter_map}
-use Rattle.hn_base.proofs.Keys.{same_node}
-use Rattle.hn_base.proofs.PartsAtPlaces.{contains_at}
-use Rattle.hn_base.specs.Name.{name_text}
-use Rattle.hn_base.specs.declared.ids.NodeId.{NodeId}
-use Rattle.hn_base.specs.declared.name.Name.{Name}
-use Rattle.hn_base.specs.declared.version.Version.{Version}
-use Rattle.hn_data.specs.declared.view.Entry.{Entry}
-use Rattle.hn_dncp.specs.Packing.{datagram_of}
-use Rattle.hn_router.specs.Act.{Arrive, Happened}
-use Rattle.hn_rules.specs.declared.done.Note.{Note}
-use Rattle.hn_rules.specs.declared.state.State.{State}
-use Rattle.hn_rules.specs.Nodes.{held_entry, own_entry, entry_of, view_of}
-use Rattle.hn_rules.specs.Router.{IsRouter}
-use Rattle.hn_store.specs.Nodes.{held}
-use Rattle.hn_store.specs.declared.stored.Stored.{Stored}
-use Rattle.hn_world.specs.declared.copies.Target.{Target}
-use Rattle.hn_world.specs.declared.event.Traced.{Traced}
-use Rattle.hn_world.specs.declared.event.WEvent.{WEvent}
+use Rattle.hn_base.proofs.Names.{◌≡◌, ◌≢◌, ◌∙◌, ◌<◌, ◌≤◌, ◌+◌, ℕ, suc, Bool, true, false, cond, List, [], ◌∷◌, ◌++◌, length, map, position, slice_get, Contains, Option, Some, None, sym, ap, subst}
+use Rattle.hn_base.proofs.Names.{refl, inl, inr, arith, length-append, option_map, cases_eq, leb-false, length-map, All-contains, find_at, same_Some, bytes_eq-Decides, name_text}
+use Rattle.hn_sync.proofs.Names.{◌==◌, find, nothing_in, found_passes, same_node, contains_at, NodeId, Name, Version, Entry, datagram_of, Arrive, Happened, Note, State, held_entry, own_entry}
+use Rattle.hn_sync.proofs.Names.{entry_of, IsRouter, held, Stored, Target, Traced, WEvent, Member, Parts, EachEventIsEntered, address_of_target, is_named, member_named, router_place, Goes, Replays}
+use Rattle.hn_sync.proofs.Names.{IsReplayed, IsSoundMember, Acts, Does, Step, acted, entered, request, IsQuestion, AreDeliveries, delivery, HasRoomFor, IsRepaired}
+use Rattle.std.proofs.Common.{nat_le}
+use Rattle.hn_base.proofs.Elements.{from_filter_map}
+use Rattle.hn_rules.specs.Nodes.{view_of}
 use Rattle.hn_world.specs.declared.event.WEvent.TheVariants as event
-use Rattle.hn_world.specs.declared.member.Member.{Member}
-use Rattle.hn_world.specs.declared.parts.Parts.{Parts}
-use Rattle.hn_world.specs.Laws.{EachEventIsEntered}
-use Rattle.hn_world.specs.Mail.{address_of_target}
-use Rattle.hn_world.specs.Names.{is_named, member_named, router_place}
-use Rattle.hn_world.specs.Replay.{Goes, Replays, IsReplayed, IsSoundMember}
-use Rattle.hn_world.specs.Step.{Acts, Does, Step, acted, entered}
 use Rattle.hn_sync.proofs.AfterTheQuestion.{IsAsking, questioned, pair_of, begun}
 use Rattle.hn_sync.proofs.Between.{endpoint_fits, endpoint_there, replays_step, replayed_more}
 use Rattle.hn_sync.proofs.Delivered.{goes_enters}
@@ -49,8 +21,8 @@ use Rattle.hn_sync.proofs.WhatCopiesSay.{Letter, copy_of}
 use Rattle.hn_sync.proofs.ListsFromLists.{set_is, position_is, stands}
 use Rattle.hn_sync.proofs.CopiesToDeliver.{no_answers}
 use Rattle.hn_sync.proofs.Sayings.{Saying}
-use Rattle.hn_sync.specs.Exchange.{request, IsQuestion, AreDeliveries, IsExchange, delivery}
-use Rattle.hn_sync.specs.Repairs.{HoldsAs, HasRoomFor, IsNamedAlways, IsRepaired, Repairs}
+use Rattle.hn_sync.specs.Exchange.{IsExchange}
+use Rattle.hn_sync.specs.Repairs.{HoldsAs, IsNamedAlways, Repairs}
 
 pub record RepairLaws : Type 0 where
   pub going : GoingLaws

@@ -1,22 +1,9 @@
 -- What a router that is still replies to requests.
-use Rattle.std.proofs.Common.{◌≡◌, ◌∙◌, ◌<◌, ℕ, false, List, [], ◌∷◌, ◌++◌, All, Contains, Some, None, sym, ap, subst, refl, inl, inr}
-use Rattle.std.specs.List.Sorted.{IsStrictlySortedBy}
-use Rattle.std.proofs.lemmas.List.Elements.{All-contains, Contains-append_cases}
-use Rattle.std.proofs.lemmas.Map.Keys.{sorted_tail}
-use Rattle.hn_base.proofs.AscendingLists.{nothing_in, below_head, Contains-head, Contains-tail, Contains-cases, Contains-one}
-use Rattle.hn_base.proofs.AscendingNumbers.{lt_from_less}
-use Rattle.hn_base.specs.declared.ids.NodeId.{NodeId}
-use Rattle.hn_base.specs.NodeIds.{node_cmp}
-use Rattle.hn_base.specs.Rules.{Each}
-use Rattle.hn_data.specs.declared.view.Entry.{Entry}
-use Rattle.hn_rules.specs.declared.answers.Subject.{Subject}
-use Rattle.hn_rules.specs.declared.answers.Subject.TheVariants.{NetworkState, NodeState}
-use Rattle.hn_rules.specs.declared.running.Running.{Running}
-use Rattle.hn_rules.specs.declared.state.State.{State}
-use Rattle.hn_rules.specs.Answers.{with_answer}
-use Rattle.hn_rules.specs.Nodes.{entry_of}
-use Rattle.hn_rules.specs.Requests.{IsNetworkRequest, with_state}
-use Rattle.hn_store.specs.Laws.{HeldIsOfAnEntry}
+use Rattle.hn_base.proofs.Names.{◌≡◌, ◌∙◌, ◌<◌, ℕ, false, List, [], ◌∷◌, ◌++◌, Contains, Some, None, sym, ap, subst, refl, inl, inr, IsStrictlySortedBy, All-contains, Contains-append_cases}
+use Rattle.hn_base.proofs.Names.{sorted_tail, node_cmp, Each}
+use Rattle.hn_sync.proofs.Names.{All, nothing_in, Contains-head, Contains-tail, Contains-cases, Contains-one, lt_from_less, NodeId, Entry, Subject, NetworkState, NodeState, Running, State}
+use Rattle.hn_sync.proofs.Names.{with_answer, entry_of, IsNetworkRequest, with_state, HeldIsOfAnEntry}
+use Rattle.hn_base.proofs.AscendingLists.{below_head}
 use Rattle.hn_typed.specs.Item as item
 use Rattle.hn_sync.proofs.Answered.{AnswersAre, with_more}
 use Rattle.hn_sync.proofs.NodeStatesSaid.{IsFit, Knows, item_of, Says}

@@ -1,24 +1,12 @@
 -- The router that asks has room for the nodes that the other one reaches.
-use Rattle.std.proofs.Common.{◌≡◌, ◌≢◌, ◌∙◌, ◌⊎◌, ◌≤◌, ◌+◌, ◌==◌, ◌&&◌, ℕ, Bool, true, false, not, cond, List, [], ◌∷◌, ◌++◌, length, map, filter, Contains, is_none, Option, Some, None, sym, ap}
-use Rattle.std.proofs.Common.{subst, refl, inl, inr, arith, length-append}
-use Rattle.std.specs.Option.{option_map}
-use Rattle.std.specs.Ordering.{nat_cmp}
-use Rattle.std.proofs.lemmas.Bool.{eq-eqb, ne_eqb}
-use Rattle.std.proofs.lemmas.Cmp.{nat_cmp_total}
-use Rattle.std.proofs.lemmas.List.{length-map}
-use Rattle.std.proofs.lemmas.List.Elements.{Contains-append_left, Contains-append_right}
-use Rattle.hn_base.proofs.AscendingLists.{nothing_in, exact_nat, Contains-cases, Contains-map, Contains-from_map}
-use Rattle.hn_base.proofs.Elements.{in_filter, passing_found}
+use Rattle.hn_base.proofs.Names.{◌≡◌, ◌≢◌, ◌∙◌, ◌⊎◌, ◌≤◌, ◌+◌, ℕ, Bool, true, false, not, cond, List, [], ◌∷◌, ◌++◌, length, map, filter, Contains, Option, Some, None, sym, ap, subst, refl, inl, inr}
+use Rattle.hn_base.proofs.Names.{arith, length-append, option_map, nat_cmp, eq-eqb, ne_eqb, nat_cmp_total, length-map, Contains-append_left, Contains-append_right}
+use Rattle.hn_sync.proofs.Names.{◌==◌, ◌&&◌, is_none, nothing_in, Contains-cases, Contains-map, Contains-from_map, in_filter, passing_found, NodeId, Entry, State, HeldIsOfAnEntry, held, IsTable}
+use Rattle.hn_sync.proofs.Names.{HeldNode, Stored, is_news, HasRoomFor}
+use Rattle.hn_base.proofs.AscendingLists.{exact_nat}
 use Rattle.hn_base.proofs.Pigeonhole.{no_longer}
-use Rattle.hn_base.specs.declared.ids.NodeId.{NodeId}
-use Rattle.hn_data.specs.declared.view.Entry.{Entry}
-use Rattle.hn_rules.specs.declared.state.State.{State}
-use Rattle.hn_store.specs.Laws.{HeldIsOfAnEntry}
-use Rattle.hn_store.specs.Nodes.{held, ids_of_held, IsTable}
-use Rattle.hn_store.specs.declared.stored.HeldNode.{HeldNode}
-use Rattle.hn_store.specs.declared.stored.Stored.{Stored}
+use Rattle.hn_store.specs.Nodes.{ids_of_held}
 use Rattle.hn_sync.proofs.Holding.{AsBefore, NoneHeld, SomeHeld}
-use Rattle.hn_sync.specs.Repairs.{is_news, HasRoomFor}
 
 no_more : (p q : NodeId → Bool) (xs : List NodeId) → length (filter (λ y. p y && q y) xs) ≤ length (filter p xs)
 no_more p q [] = omega arith

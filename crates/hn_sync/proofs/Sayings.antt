@@ -1,26 +1,17 @@
 -- What the datagrams of an exchange say, item by item, and that it is read as it was written.
-use Rattle.std.proofs.Common.{◌≡◌, ◌∙◌, ◌<◌, ◌≤◌, ◌^◌, ℕ, List, [], ◌∷◌, ◌++◌, length, map, Contains, All, sym, ap, subst, refl, inl, inr, arith, append_assoc, length-append}
-use Rattle.std.proofs.lemmas.List.Elements.{All-nil, All-append, All-head, All-tail, Contains-append_left, Contains-append_right, Contains-append_cases}
+use Rattle.hn_base.proofs.Names.{◌≡◌, ◌∙◌, ◌<◌, ◌≤◌, ◌^◌, ℕ, List, [], ◌∷◌, ◌++◌, length, map, Contains, sym, ap, subst, refl, inl, inr, arith, append_assoc, length-append, All-nil, All-append}
+use Rattle.hn_base.proofs.Names.{All-head, All-tail, Contains-append_left, Contains-append_right, Contains-append_cases, IsByte}
+use Rattle.hn_sync.proofs.Names.{All, EpId, NodeId, nothing_in, Contains-head, Contains-tail, Contains-cases, all_of, IsPacking, sender_tlv, Answer, Subject, Origin, Running, IsItemRule, IsTlvRule}
+use Rattle.hn_sync.proofs.Names.{PlainTlv, IsTlvList, HasTlvs, IsHash, PlainItem, tlv_of}
 use Rattle.hn_base.proofs.BigEndian.{number_bytes}
-use Rattle.hn_base.specs.Byte.{IsByte}
-use Rattle.hn_base.specs.declared.ids.EpId.{EpId}
-use Rattle.hn_base.specs.declared.ids.NodeId.{NodeId}
-use Rattle.hn_base.proofs.AscendingLists.{nothing_in, Contains-head, Contains-tail, Contains-cases}
-use Rattle.hn_base.proofs.Elements.{all_of}
 use Rattle.hn_dncp.specs.Laws.{PackingIsRead}
-use Rattle.hn_dncp.specs.Packing.{IsPacking, AreRead, sender_tlv}
-use Rattle.hn_rules.specs.declared.answers.Answer.{Answer}
-use Rattle.hn_rules.specs.declared.answers.Subject.{Subject}
-use Rattle.hn_rules.specs.declared.running.Origin.{Origin}
-use Rattle.hn_rules.specs.declared.running.Running.{Running}
-use Rattle.hn_rules.specs.Arrival.{IsItemRule, IsTlvRule}
-use Rattle.hn_tlv.specs.Grammar.{PlainTlv, IsTlv, IsTlvList, HasTlvs, spelling}
-use Rattle.hn_typed.specs.Fields.{word, IsHash}
-use Rattle.hn_typed.specs.Item.{PlainItem}
+use Rattle.hn_dncp.specs.Packing.{AreRead}
+use Rattle.hn_tlv.specs.Grammar.{IsTlv, spelling}
+use Rattle.hn_typed.specs.Fields.{word}
 use Rattle.hn_typed.specs.Item as item
 use Rattle.hn_typed.specs.Laws.{ItemIsUnique, ItemHasNoFault, WrittenIsRead}
 use Rattle.hn_typed.specs.Table.{InRange}
-use Rattle.hn_typed.specs.Written.{value_of, tlv_of, IsWritable}
+use Rattle.hn_typed.specs.Written.{value_of, IsWritable}
 
 -- ---- items that can be written and read
 

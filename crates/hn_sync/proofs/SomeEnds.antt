@@ -1,32 +1,14 @@
 -- An exchange ends: it cannot be that it does not.
-use Rattle.std.proofs.Common.{◌≡◌, ◌<◌, ◌≤◌, ◌+◌, ◌-◌, ℕ, zero, suc, List, [], ◌∷◌, All, length, Option, Some, None, refl, sym, ap, subst, inl, inr, arith}
-use Rattle.std.proofs.lemmas.Bool.{cases_lt}
-use Rattle.std.proofs.lemmas.List.{length_push}
-use Rattle.hn_base.specs.Byte.{IsByte}
-use Rattle.hn_base.specs.Exists.{Some! }
-use Rattle.hn_base.specs.Words.{Begins, Took}
-use Rattle.hn_base.specs.declared.ids.EpId.{EpId}
-use Rattle.hn_base.specs.declared.ids.NodeId.{NodeId}
-use Rattle.hn_base.specs.declared.name.Name.{Name}
+use Rattle.hn_base.proofs.Names.{◌≡◌, ◌<◌, ◌≤◌, ◌+◌, ◌-◌, ℕ, zero, suc, List, [], ◌∷◌, length, Option, Some, None, refl, sym, ap, subst, inl, inr, arith, cases_lt, length_push, IsByte, Some!, Begins}
+use Rattle.hn_base.proofs.Names.{Took}
+use Rattle.hn_sync.proofs.Names.{All, EpId, NodeId, Name, datagram_of, sender_tlv, WordsJoin, Note, ListIsOfBytes, RequestNetwork, tlv_of, Traced, WEvent, Parts, EachEventIsEntered, WorldHasItsTrace}
+use Rattle.hn_sync.proofs.Names.{WorldHasItsVersion, refusal, IsReplayed, words_of_trace, routed, IsStep, Step, request, AreDelivered, ExchangeEnds, IsQuestion, AsksOrIsRefused}
 use Rattle.hn_base.proofs.SomeExists.{some_then}
-use Rattle.hn_dncp.specs.Packing.{datagram_of, sender_tlv}
-use Rattle.hn_io.specs.Laws.{WordsJoin}
-use Rattle.hn_rules.specs.declared.done.Note.{Note}
-use Rattle.hn_tlv.specs.Laws.{ListIsOfBytes}
-use Rattle.hn_typed.specs.Item.{RequestNetwork}
-use Rattle.hn_typed.specs.Written.{tlv_of}
-use Rattle.hn_world.specs.declared.event.Traced.{Traced}
-use Rattle.hn_world.specs.declared.event.WEvent.{WEvent}
 use Rattle.hn_world.specs.declared.event.WEvent.TheVariants as event
-use Rattle.hn_world.specs.declared.parts.Parts.{Parts}
 use Rattle.hn_world.specs.Existing.{HasAStep, IsOfBytesAt, Outcome, ReplayedStepExists}
-use Rattle.hn_world.specs.Laws.{EachEventIsEntered, WorldHasItsTrace, WorldHasItsVersion}
-use Rattle.hn_world.specs.Refusal.{refusal}
-use Rattle.hn_world.specs.Replay.{IsReplayed, words_of_trace}
-use Rattle.hn_world.specs.Routed.{routed}
-use Rattle.hn_world.specs.Step.{FitsAt, IsWorldEventInRange, IsStep, Step}
-use Rattle.hn_sync.specs.Exchange.{request, AreDelivered, EndOfExchange, ExchangeEnds, HasAnEnd, IsQuestion}
-use Rattle.hn_sync.specs.Laws.{AsksOrIsRefused, ExchangeExists}
+use Rattle.hn_world.specs.Step.{FitsAt, IsWorldEventInRange}
+use Rattle.hn_sync.specs.Exchange.{EndOfExchange, HasAnEnd}
+use Rattle.hn_sync.specs.Laws.{ExchangeExists}
 use Rattle.hn_sync.proofs.Between.{replayed_then}
 use Rattle.hn_sync.proofs.Delivered.{Came, came_none, came_more, came_all, came_refused, stops_first, whole_after, stops_after}
 use Rattle.hn_sync.proofs.Sayings.{can_say_request, endpoint_is_tlv}

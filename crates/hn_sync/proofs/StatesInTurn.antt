@@ -1,36 +1,13 @@
 -- The states of nodes arrive at the router that asks, one after another.
-use Rattle.std.proofs.Common.{◌≡◌, ◌≢◌, ◌∙◌, ◌⊎◌, ◌<◌, ◌+◌, ◌%◌, ◌^◌, ◌==◌, ℕ, Bool, true, false, not, is_none, List, [], ◌∷◌, map, All, Contains, Option, Some, None, sym, ap, subst, refl, inl, inr}
-use Rattle.std.proofs.Common.{arith}
-use Rattle.std.proofs.lemmas.Bool.{cases_eq, ne_eqb}
-use Rattle.std.proofs.lemmas.List.Elements.{All-head, All-tail}
-use Rattle.hn_base.proofs.AscendingLists.{Contains-head}
-use Rattle.hn_base.proofs.Keys.{same_node}
-use Rattle.hn_base.specs.declared.ids.NodeId.{NodeId}
-use Rattle.hn_base.specs.Rules.{Then, Each}
-use Rattle.hn_data.specs.declared.view.Entry.{Entry}
-use Rattle.hn_dncp.specs.declared.port.Port.{Port}
-use Rattle.hn_hash.specs.Hash.{hash_of}
-use Rattle.hn_rules.specs.declared.answers.Subject.{Subject}
-use Rattle.hn_rules.specs.declared.answers.Subject.TheVariants.{NetworkRequest, NetworkState, NodeRequest, NodeState, NodeData}
+use Rattle.hn_base.proofs.Names.{◌≡◌, ◌≢◌, ◌∙◌, ◌⊎◌, ◌<◌, ◌+◌, ◌%◌, ◌^◌, ℕ, Bool, true, false, not, List, [], ◌∷◌, map, Contains, Option, Some, None, sym, ap, subst, refl, inl, inr, arith, cases_eq}
+use Rattle.hn_base.proofs.Names.{ne_eqb, All-head, All-tail, Then, Each}
+use Rattle.hn_sync.proofs.Names.{◌==◌, is_none, All, Contains-head, same_node, NodeId, Entry, Port, hash_of, Subject, NetworkRequest, NetworkState, NodeRequest, NodeState, NodeData, Origin, Running}
+use Rattle.hn_sync.proofs.Names.{State, with_answer, IsItemRule, IsTlvRule, IsClaim, own_leaf, took_noted, IsTaken, IsNodeState, IsPublished, IsRefresh, noted, IsStale, IsAnswer, entries_after}
+use Rattle.hn_sync.proofs.Names.{HeldIsOfAnEntry, MarksKeepTable, PutChangesOneNode, Nodes, held, IsTable, Took, HeldNode, Stored, PlainItem, RequestNode, state_of, HasRoomFor, IsRepaired, is_news}
+use Rattle.hn_sync.proofs.Names.{IsHash}
 use Rattle.hn_rules.specs.declared.done.Note.TheVariants as note
-use Rattle.hn_rules.specs.declared.running.Origin.{Origin}
-use Rattle.hn_rules.specs.declared.running.Running.{Running}
-use Rattle.hn_rules.specs.declared.state.State.{State}
-use Rattle.hn_rules.specs.Answers.{with_answer}
-use Rattle.hn_rules.specs.Arrival.{IsItemRule, IsTlvRule}
-use Rattle.hn_rules.specs.Claim.{IsClaim}
-use Rattle.hn_rules.specs.Nodes.{own_leaf}
-use Rattle.hn_rules.specs.NodeState.{took_noted, IsTaken, IsNodeState}
-use Rattle.hn_rules.specs.Refresh.{IsPublished, IsRefresh}
-use Rattle.hn_rules.specs.Rules.{noted}
-use Rattle.hn_store.specs.Acceptance.{IsStale, IsAnswer, entries_after}
-use Rattle.hn_store.specs.Laws.{HeldIsOfAnEntry, MarksKeepTable, PutChangesOneNode, OthersStay, AcceptanceKeepsTable, HeldWasBrought}
-use Rattle.hn_store.specs.Nodes.{Nodes, held, IsTable}
-use Rattle.hn_store.specs.declared.state.Took.{Took}
+use Rattle.hn_store.specs.Laws.{OthersStay, AcceptanceKeepsTable, HeldWasBrought}
 use Rattle.hn_store.specs.declared.state.Took.TheVariants as took
-use Rattle.hn_store.specs.declared.stored.HeldNode.{HeldNode}
-use Rattle.hn_store.specs.declared.stored.Stored.{Stored}
-use Rattle.hn_typed.specs.Item.{PlainItem, RequestNode}
 use Rattle.hn_sync.proofs.Answered.{with_more}
 use Rattle.hn_sync.proofs.NodeStatesSaid.{IsFit, Knows, knows_one, IsSaidOf, Says, Asks, EntryLaws, can_say}
 use Rattle.hn_sync.proofs.Greetings.{network_heard}
@@ -41,8 +18,6 @@ use Rattle.hn_sync.proofs.Replies.{Ascends}
 use Rattle.hn_sync.proofs.RoomForNodes.{both_true, AreOfBoth, room_here}
 use Rattle.hn_sync.proofs.Sayings.{ReadLaws, rule_of, Saying, tlv_said}
 use Rattle.hn_sync.proofs.PeersSaid.{signs, Ascend, ascend_from_signs}
-use Rattle.hn_sync.specs.Repairs.{state_of, HasRoomFor, IsRepaired, is_news}
-use Rattle.hn_typed.specs.Fields.{IsHash}
 
 pub record TableLaws : Type 0 where
   pub of_entry : HeldIsOfAnEntry

@@ -1,30 +1,8 @@
 -- The turns of an exchange: the question, requests at the router that is asked, and states at the one that asks.
-use Rattle.std.proofs.Common.{◌≡◌, ◌∙◌, ◌<◌, ◌^◌, ℕ, true, false, List, [], ◌∷◌, map, All, Contains, sym, ap, subst, refl, inl, inr}
-use Rattle.std.specs.List.Sorted.{IsStrictlySortedBy}
-use Rattle.std.proofs.lemmas.List.Elements.{All-nil, All-contains}
-use Rattle.hn_base.proofs.AscendingLists.{nothing_in, Contains-one}
-use Rattle.hn_base.proofs.Elements.{all_of}
-use Rattle.hn_base.specs.declared.ids.EpId.{EpId}
-use Rattle.hn_base.specs.declared.ids.NodeId.{NodeId}
-use Rattle.hn_base.specs.NodeIds.{node_cmp}
-use Rattle.hn_base.specs.Rules.{Each}
-use Rattle.hn_data.specs.declared.view.Entry.{Entry}
-use Rattle.hn_dncp.specs.declared.port.Port.{Port}
-use Rattle.hn_dncp.specs.Packing.{IsPacking, sender_tlv}
-use Rattle.hn_own.specs.Ports.{ArePorts}
-use Rattle.hn_rules.specs.declared.answers.Subject.TheVariants.{NetworkRequest, NetworkState, NodeRequest, NodeState, NodeData}
-use Rattle.hn_rules.specs.declared.done.Done.{Done}
-use Rattle.hn_rules.specs.declared.running.Origin.{Origin}
-use Rattle.hn_rules.specs.declared.running.Running.{Running}
-use Rattle.hn_rules.specs.declared.state.State.{State}
-use Rattle.hn_rules.specs.Arrival.{IsTlvRule}
-use Rattle.hn_rules.specs.Laws.{RefreshRests, ItemsArePublished}
-use Rattle.hn_rules.specs.Refresh.{IsPublished, IsRefresh}
-use Rattle.hn_rules.specs.Requests.{IsNetworkRequest, state_item, with_state}
-use Rattle.hn_rules.specs.Router.{IsRouter}
-use Rattle.hn_rules.specs.Rules.{IsSole, begun_at}
-use Rattle.hn_store.specs.Nodes.{IsTable}
-use Rattle.hn_typed.specs.Fields.{IsHash}
+use Rattle.hn_base.proofs.Names.{◌≡◌, ◌∙◌, ◌<◌, ◌^◌, ℕ, true, false, List, [], ◌∷◌, map, Contains, sym, ap, subst, refl, inl, inr, IsStrictlySortedBy, All-nil, All-contains, node_cmp, Each}
+use Rattle.hn_sync.proofs.Names.{All, nothing_in, Contains-one, all_of, EpId, NodeId, Entry, Port, IsPacking, sender_tlv, ArePorts, NetworkRequest, NetworkState, NodeRequest, NodeState, NodeData}
+use Rattle.hn_sync.proofs.Names.{Done, Origin, Running, State, IsTlvRule, RefreshRests, IsPublished, IsRefresh, IsNetworkRequest, state_item, with_state, IsRouter, IsSole, begun_at, IsTable, IsHash}
+use Rattle.hn_rules.specs.Laws.{ItemsArePublished}
 use Rattle.hn_typed.specs.Item as item
 use Rattle.hn_sync.proofs.Answered.{AnswersAre}
 use Rattle.hn_sync.proofs.Arrivals.{sends_of, HasArrived}

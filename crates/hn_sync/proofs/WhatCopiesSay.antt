@@ -1,20 +1,8 @@
 -- The copies of what the two routers of an exchange send each other, with what they say.
-use Rattle.std.proofs.Common.{◌≡◌, ◌∙◌, ◌<◌, ◌+◌, ◌^◌, ◌==◌, ◌&&◌, ℕ, zero, suc, Bool, true, false, List, [], ◌∷◌, ◌++◌, map, filter, slice_get, Contains, Some, sym, ap, subst, refl, inl, inr, arith}
-use Rattle.std.proofs.Common.{append_assoc}
-use Rattle.std.proofs.lemmas.Bool.{eq-eqb}
-use Rattle.std.proofs.lemmas.List.Elements.{Contains-append_left, Contains-append_right, Contains-append_cases}
-use Rattle.std.proofs.lemmas.Option.{same_Some}
-use Rattle.hn_base.proofs.AscendingLists.{nothing_in, Contains-map, Contains-from_map}
-use Rattle.hn_base.proofs.Elements.{in_filter, from_filter}
-use Rattle.hn_base.specs.declared.ids.EpId.{EpId}
-use Rattle.hn_base.specs.declared.ids.NodeId.{NodeId}
-use Rattle.hn_own.specs.Ports.{endpoints_of}
-use Rattle.hn_rules.specs.declared.done.Outgoing.{Outgoing}
-use Rattle.hn_world.specs.declared.copies.MailCopy.{MailCopy}
-use Rattle.hn_world.specs.declared.copies.Target.{Target}
-use Rattle.hn_world.specs.declared.member.Member.{Member}
-use Rattle.hn_world.specs.Mail.{address_of_target, on_link_at, on_link, gets, copy_for, copies_on, copies_of_send, copies_of}
-use Rattle.hn_world.specs.Names.{is_on, link_of}
+use Rattle.hn_base.proofs.Names.{◌≡◌, ◌∙◌, ◌<◌, ◌+◌, ◌^◌, ℕ, zero, suc, Bool, true, false, List, [], ◌∷◌, ◌++◌, map, filter, slice_get, Contains, Some, sym, ap, subst, refl, inl, inr, arith}
+use Rattle.hn_base.proofs.Names.{append_assoc, eq-eqb, Contains-append_left, Contains-append_right, Contains-append_cases, same_Some}
+use Rattle.hn_sync.proofs.Names.{◌==◌, ◌&&◌, nothing_in, Contains-map, Contains-from_map, in_filter, from_filter, EpId, NodeId, endpoints_of, Outgoing, MailCopy, Target, Member, address_of_target}
+use Rattle.hn_sync.proofs.Names.{on_link_at, on_link, gets, copy_for, copies_on, copies_of_send, copies_of, is_on, link_of}
 use Rattle.hn_sync.proofs.Between.{HasPorts, same_address, has_this, target_fits}
 use Rattle.hn_sync.proofs.Sayings.{Saying, SaysIn, IsPart, AreSaid}
 

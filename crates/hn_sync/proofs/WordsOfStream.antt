@@ -1,9 +1,5 @@
 -- The first words of a stream.
-use Rattle.std.proofs.Common.{[], inl, inr, ◌≡◌, ◌∙◌, ◌+◌, ◌-◌, ℕ, List, ◌++◌, length, Some, ap, zero-add, length-append, arith}
-use Rattle.std.proofs.lemmas.Bool.{cases_lt}
-use Rattle.std.proofs.lemmas.Grind.{common_steps}
-use Rattle.std.proofs.lemmas.Option.{same_Some}
-use Rattle.hn_base.specs.Words.{Begins, IsAt, Took}
+use Rattle.hn_base.proofs.Names.{[], inl, inr, ◌≡◌, ◌∙◌, ◌+◌, ◌-◌, ℕ, List, ◌++◌, length, Some, ap, zero-add, length-append, arith, cases_lt, common_steps, same_Some, Begins, IsAt, Took}
 
 -- words that stand in the stream after others
 begins_both : (xs ys : List ℕ) (stream : ℕ → ℕ) → Begins xs stream → Begins ys (λ i. stream (length xs + i)) → Begins (xs ++ ys) stream

@@ -1,17 +1,8 @@
 -- What becomes of a delegated prefix.
-use Rattle.std.proofs.Common.{◌≡◌, ◌∙◌, ◌<◌, ◌≤◌, ℕ, List, [], ◌∷◌, length, get_or, Contains, inl, inr, refl, sym, ap, arith}
+use Rattle.hn_base.proofs.Names.{◌≡◌, ◌∙◌, ◌<◌, ◌≤◌, ℕ, List, [], ◌∷◌, length, get_or, Contains, inl, inr, refl, sym, ap, arith, get_or-map, get_or_default, length-map, PlainPrefix}
+use Rattle.hn_table.proofs.Names.{HasDelegation, HasVersion, PlainView, Delegation, Entry, remaining, IsAnnouncedPrefix, AreUsable, IsOutermost, prefixes_of, Delegated, IsPast}
 use Rattle.std.specs.List.{Any}
-use Rattle.std.proofs.lemmas.List.{get_or-map, get_or_default, length-map}
-use Rattle.hn_base.specs.Prefix.{PlainPrefix}
-use Rattle.hn_data.specs.Delegations.{HasDelegation}
-use Rattle.hn_data.specs.Said.{HasVersion}
-use Rattle.hn_data.specs.View.{PlainView}
-use Rattle.hn_data.specs.declared.said.Delegation.{Delegation}
-use Rattle.hn_data.specs.declared.view.Entry.{Entry}
-use Rattle.hn_deleg.specs.Live.{remaining, IsAnnouncedPrefix}
-use Rattle.hn_deleg.specs.Used.{AreUsable, IsOutermost, prefixes_of}
-use Rattle.hn_deleg.specs.declared.delegated.Delegated.{Delegated}
-use Rattle.hn_table.specs.Fate.{IsCandidate, IsPast}
+use Rattle.hn_table.specs.Fate.{IsCandidate}
 
 -- the prefix of a delegated prefix
 abbrev prefix_of : Delegated → PlainPrefix

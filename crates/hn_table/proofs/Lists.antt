@@ -1,14 +1,9 @@
 -- Texts that grow by a line for each element of a list.
-use Rattle.std.proofs.Common.{◌≡◌, ◌∙◌, ◌+◌, ◌<◌, ℕ, List, [], ◌∷◌, ◌++◌, codes, length, take, get_or, sym, ap}
-use Rattle.std.specs.Fmt.{decimal}
-use Rattle.std.specs.List.{flat_map}
-use Rattle.std.proofs.lemmas.List.{flat_map_more, take_more}
-use Rattle.hn_assign.specs.declared.assigned.Assigned.{Assigned}
-use Rattle.hn_base.specs.HexText.{hex_text, id_text}
+use Rattle.hn_base.proofs.Names.{◌≡◌, ◌∙◌, ◌+◌, ◌<◌, ℕ, List, [], ◌∷◌, ◌++◌, codes, length, take, get_or, sym, ap, decimal, flat_map, flat_map_more, take_more, hex_text, id_text}
+use Rattle.hn_table.proofs.Names.{Assigned, Member, table_line, assigned_line}
 use Rattle.hn_base.specs.declared.ids.NodeId.{NodeId}
 use Rattle.hn_prefix.specs.PrefixText.{prefix_text_of}
-use Rattle.hn_world.specs.declared.member.Member.{Member}
-use Rattle.hn_table.specs.Lines.{yes_no, table_line, published_word, assigned_line}
+use Rattle.hn_table.specs.Lines.{yes_no, published_word}
 
 -- one more, as a `for` goes over a slice
 module _ {A : Type 0} (f : A → List ℕ) (xs : List A) (i : ℕ) (begins so_far : List ℕ) where

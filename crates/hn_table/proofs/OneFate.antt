@@ -1,18 +1,10 @@
 -- A delegated prefix has no two fates.
-use Rattle.std.proofs.Common.{◌≡◌, ◌↔◌, ◌<◌, ◌≤◌, List, ◌⊎◌, ⊎_elim, All, Contains, refl, sym, ap, subst, arith}
-use Rattle.std.proofs.lemmas.List.Elements.{All-contains}
+use Rattle.hn_base.proofs.Names.{◌≡◌, ◌↔◌, ◌<◌, ◌≤◌, List, ◌⊎◌, ⊎_elim, Contains, refl, sym, ap, subst, arith, All-contains, PlainPrefix, IsWithin, Overlaps}
+use Rattle.hn_table.proofs.Names.{All, HasVersion, PlainView, Delegation, Entry, remaining, AreUsable, IsOutermost, prefixes_of, Delegated, IsPast, Unreachable}
 use Rattle.hn_base.proofs.AscendingLists.{Contains-from_map}
-use Rattle.hn_base.specs.Prefix.{PlainPrefix, IsWithin, Overlaps}
-use Rattle.hn_data.specs.Said.{HasVersion}
-use Rattle.hn_data.specs.View.{PlainView}
-use Rattle.hn_data.specs.declared.said.Delegation.{Delegation}
-use Rattle.hn_data.specs.declared.view.Entry.{Entry}
-use Rattle.hn_deleg.specs.Live.{remaining}
-use Rattle.hn_deleg.specs.Used.{AreUsable, IsOutermost, prefixes_of}
-use Rattle.hn_deleg.specs.declared.delegated.Delegated.{Delegated}
-use Rattle.hn_table.specs.Fate.{IsUsed, IsEnded, IsLong, IsInsideOther, IsPast, IsFate, HasOneFate}
+use Rattle.hn_table.specs.Fate.{IsUsed, IsEnded, IsLong, IsInsideOther, IsFate, HasOneFate}
 use Rattle.hn_table.specs.declared.fate.Fate.{Fate}
-use Rattle.hn_table.specs.declared.fate.Fate.TheVariants.{Used, NoVersion, Ended, Long, Inside, Past, Unreachable}
+use Rattle.hn_table.specs.declared.fate.Fate.TheVariants.{Used, NoVersion, Ended, Long, Inside, Past}
 
 -- the law of hn_prefix: two prefixes overlap where one is within the other
 abbrev pub OverlapIsNesting : Type 0

@@ -1,12 +1,11 @@
 -- Texts of several things, one after another.
-use Rattle.std.proofs.Common.{◌≡◌, ◌↔◌, ◌∙◌, ◌+◌, ◌<◌, ◌≤◌, ℕ, Bool, true, false, List, [], ◌∷◌, ◌++◌, length, take, get_or, Contains, refl, sym, ap, subst, append-nil, append_assoc}
+use Rattle.hn_base.proofs.Names.{◌≡◌, ◌↔◌, ◌∙◌, ◌+◌, ◌<◌, ◌≤◌, ℕ, Bool, true, false, List, [], ◌∷◌, ◌++◌, length, take, get_or, Contains, refl, sym, ap, subst, append_assoc, take_more, take_all}
+use Rattle.hn_base.proofs.Names.{filter-append}
+use Rattle.hn_table.proofs.Names.{HasDelegation, Delegation, InOrder, Adds}
+use Rattle.std.proofs.Common.{append-nil}
 use Rattle.std.specs.List.{filter}
-use Rattle.std.proofs.lemmas.List.{take_more, take_all}
-use Rattle.std.proofs.lemmas.List.Elements.{filter-append}
-use Rattle.hn_data.specs.Delegations.{HasDelegation, HasDelegations}
-use Rattle.hn_data.specs.declared.said.Delegation.{Delegation}
+use Rattle.hn_data.specs.Delegations.{HasDelegations}
 use Rattle.hn_table.specs.Delegated.{AreSaidLines}
-use Rattle.hn_table.specs.InOrder.{InOrder, Adds}
 
 -- the first elements, and one more
 front_more : {A : Type 0} (xs : List A) (i : ℕ) (x : A) → i < length xs → x ≡ get_or xs i x → take i xs ++ x ∷ [] ≡ take (i + 1) xs

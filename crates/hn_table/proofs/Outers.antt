@@ -1,18 +1,10 @@
 -- The search for a candidate that has a prefix inside.
-use Rattle.std.proofs.Common.{◌≡◌, ◌≢◌, ◌↔◌, ◌∙◌, ◌+◌, ◌<◌, ◌≤◌, ℕ, List, length, take, get_or, Option, None, Some, All, Contains, sym, ap, subst, arith, ◌-◌, ◌^◌}
-use Rattle.std.specs.Prelude.{IfSome, IfNone}
-use Rattle.std.proofs.lemmas.List.{take_all}
-use Rattle.std.proofs.lemmas.Nat.{pow_pos}
-use Rattle.std.proofs.lemmas.List.Elements.{All-more, All-contains}
-use Rattle.hn_base.specs.Prefix.{PlainPrefix, IsWithin, last_address}
+use Rattle.hn_base.proofs.Names.{◌≡◌, ◌≢◌, ◌↔◌, ◌∙◌, ◌+◌, ◌<◌, ◌≤◌, ℕ, List, length, take, get_or, Option, None, Some, Contains, sym, ap, subst, arith, ◌-◌, ◌^◌, IfNone, take_all, pow_pos, All-more}
+use Rattle.hn_base.proofs.Names.{All-contains, PlainPrefix, IsWithin, last_address}
+use Rattle.hn_table.proofs.Names.{All, HasDelegation, HasVersion, PlainView, Delegation, Entry, IsAnnouncedPrefix, IsNoOuter, HasNoOuter}
+use Rattle.std.specs.Prelude.{IfSome}
 use Rattle.hn_base.proofs.Prefixes.{same_prefix}
-use Rattle.hn_data.specs.Delegations.{HasDelegation}
-use Rattle.hn_data.specs.Said.{HasVersion}
-use Rattle.hn_data.specs.View.{PlainView}
-use Rattle.hn_data.specs.declared.said.Delegation.{Delegation}
-use Rattle.hn_data.specs.declared.view.Entry.{Entry}
-use Rattle.hn_deleg.specs.Live.{IsAnnouncedPrefix}
-use Rattle.hn_table.specs.Outer.{IsNoOuter, IsOuterAmong, IsOuterAt, HasNoOuter, IsOuterCandidate}
+use Rattle.hn_table.specs.Outer.{IsOuterAmong, IsOuterAt, IsOuterCandidate}
 
 -- the elements of a list, as a `for` goes over a slice
 module _ {A : Type 0} (xs : List A) (i : ℕ) where

@@ -1,13 +1,8 @@
 -- What a router holds, one part after another.
-use Rattle.std.proofs.Common.{◌≡◌, ◌∙◌, ℕ, List, ◌++◌, Result, Ok, Err, append_assoc}
-use Rattle.std.specs.Prelude.{OnOk}
-use Rattle.std.specs.List.{flat_map}
-use Rattle.hn_assign.specs.declared.assigned.Assigned.{Assigned}
+use Rattle.hn_base.proofs.Names.{◌≡◌, ◌∙◌, ℕ, List, ◌++◌, Result, Ok, Err, append_assoc, OnOk, flat_map}
+use Rattle.hn_table.proofs.Names.{Assigned, HeldNode, Member, table_line, peers_lines, node_line, assigned_line, backoff_line}
 use Rattle.hn_assign.specs.declared.backoff.Backoff.{Backoff}
 use Rattle.hn_dncp.specs.declared.port.Port.{Port}
-use Rattle.hn_store.specs.declared.stored.HeldNode.{HeldNode}
-use Rattle.hn_world.specs.declared.member.Member.{Member}
-use Rattle.hn_table.specs.Lines.{table_line, peers_lines, node_line, assigned_line, backoff_line}
 use Rattle.hn_table.specs.Table.{held_lines}
 
 five_parts : (old a b c d e : List ℕ) → ((((old ++ a) ++ b) ++ c) ++ d) ++ e ≡ old ++ ((((a ++ b) ++ c) ++ d) ++ e)

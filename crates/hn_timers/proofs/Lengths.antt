@@ -1,8 +1,6 @@
 -- The length after a length is one.
-use Rattle.std.proofs.Common.{◌≡◌, ℕ, suc, ◌*◌, ◌^◌, ◌≤◌, inl, inr, subst, arith}
+use Rattle.hn_base.proofs.Names.{◌≡◌, ℕ, suc, ◌*◌, ◌^◌, ◌≤◌, inl, inr, subst, arith, pow-suc, cases_lt}
 use Rattle.std.proofs.Math.Pow.{pow_mono}
-use Rattle.std.proofs.Math.Nat.{pow-suc}
-use Rattle.std.proofs.lemmas.Bool.{cases_lt}
 use Rattle.hn_timers.specs.Length.{IsLength, next_length}
 
 pub IsLength-next_length : (n : ℕ) → IsLength n → IsLength (next_length n)

@@ -1,5 +1,5 @@
 -- Where nothing is due in an interval, nothing is until something is.
-use Rattle.std.proofs.Common.{◌≡◌, ◌+◌, ℕ, ◌<◌, ◌⊎◌, Bool, true, false, inl, inr, refl}
+use Rattle.hn_base.proofs.Names.{◌≡◌, ◌+◌, ℕ, ◌<◌, ◌⊎◌, Bool, true, false, inl, inr, refl}
 use Rattle.hn_timers.specs.Interval.{Interval}
 use Rattle.hn_timers.specs.Due.{IsIntervalDue, IsIntervalStill}
 

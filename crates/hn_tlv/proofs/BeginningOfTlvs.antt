@@ -1,12 +1,9 @@
 -- The one thing that stands at the beginning of some bytes, as a function: nothing, a TLV and what follows it, or a
 -- fault. Each relation of the grammar agrees with it, so no two of them hold of the same bytes.
-use Rattle.std.proofs.Common.{◌≡◌, ◌≢◌, ℕ, zero, suc, ◌+◌, ◌/◌, ◌%◌, ◌^◌, ◌<◌, cond, ltb, false, true, List, [], ◌∷◌, ◌++◌, length, take, drop, replicate, refl, ap, ◌∙◌, append_assoc, arith, inl, inr}
-use Rattle.std.specs.Int.{w16, from_be_bytes}
-use Rattle.std.proofs.lemmas.Bool.{le-ltb, lt-ltb}
-use Rattle.std.proofs.lemmas.List.{take_at, drop_at, length-append}
-use Rattle.std.proofs.lemmas.Nat.{from_be_bytes-to_be_bytes_2}
+use Rattle.hn_base.proofs.Names.{◌≡◌, ◌≢◌, ℕ, zero, suc, ◌+◌, ◌/◌, ◌%◌, ◌^◌, ◌<◌, cond, ltb, false, true, List, [], ◌∷◌, ◌++◌, length, take, drop, replicate, refl, ap, ◌∙◌, append_assoc, arith, inl}
+use Rattle.hn_base.proofs.Names.{inr, w16, from_be_bytes, le-ltb, lt-ltb, take_at, drop_at, from_be_bytes-to_be_bytes_2}
+use Rattle.hn_tlv.proofs.Names.{length-append, PlainTlv, IsTlv, padding, header, unpadded, spelling, IsFault}
 use Rattle.hn_base.proofs.BeginningOfBytes.{Outcome, Ends, Begins, Faults, IsTold}
-use Rattle.hn_tlv.specs.Grammar.{PlainTlv, IsTlv, padding, header, unpadded, spelling, IsFault}
 
 -- so many pad bytes have to come, the first of them at this offset
 pads : PlainTlv → ℕ → ℕ → List ℕ → Outcome PlainTlv

@@ -1,3 +1,4 @@
+mod Names
 pub mod BeginningOfTlvs
 pub mod OneReading
 pub mod TlvAtPlace

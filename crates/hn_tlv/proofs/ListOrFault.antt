@@ -1,14 +1,10 @@
 -- Bytes are a list of TLVs, or they have a first fault: what begins them is nothing, a TLV or a fault.
-use Rattle.std.proofs.Common.{◌≡◌, ℕ, zero, suc, ◌+◌, ◌^◌, ◌<◌, ◌≤◌, ◌⊎◌, inl, inr, List, [], ◌∷◌, ◌++◌, length, take, drop, replicate, All, refl, sym, ap, ◌∙◌, append_assoc, arith}
-use Rattle.std.specs.Int.{w16, to_be_bytes, from_be_bytes}
-use Rattle.std.proofs.lemmas.Bool.{cases_lt}
-use Rattle.std.proofs.lemmas.List.{take-append-drop, length-append, length-drop, length-take-le, get_or-drop}
-use Rattle.hn_tlv.specs.Grammar.{PlainTlv, padding, tlv_size, header, spelling, HasTlvs, IsTlvAt, IsFault, FirstFault}
-use Rattle.hn_tlv.specs.Padding.{IsPaddingFault}
+use Rattle.hn_base.proofs.Names.{◌≡◌, ℕ, zero, suc, ◌+◌, ◌^◌, ◌<◌, ◌≤◌, ◌⊎◌, inl, inr, List, [], ◌∷◌, ◌++◌, length, take, drop, replicate, refl, sym, ap, ◌∙◌, append_assoc, arith, w16, to_be_bytes}
+use Rattle.hn_base.proofs.Names.{from_be_bytes, cases_lt, take-append-drop, length-drop, length-take-le, get_or-drop, recursion_from_All, IsByte}
+use Rattle.hn_tlv.proofs.Names.{length-append, PlainTlv, padding, tlv_size, header, spelling, HasTlvs, IsTlvAt, IsFault, FirstFault, IsPaddingFault, AreOctets}
+use Rattle.std.proofs.Common.{All}
 use Rattle.hn_tlv.proofs.TakenApart.{IsSplit, is_split, faulty_padding, whole_tlv}
-use Rattle.hn_base.proofs.BigEndian.{AreOctets, octets, two_bytes, two_small}
-use Rattle.std.proofs.lemmas.List.Elements.{recursion_from_All}
-use Rattle.hn_base.specs.Byte.{IsByte}
+use Rattle.hn_base.proofs.BigEndian.{octets, two_bytes, two_small}
 
 -- ---- what begins the bytes
 

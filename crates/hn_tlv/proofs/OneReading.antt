@@ -1,7 +1,6 @@
 -- What the one outcome says of two readings of the same bytes.
-use Rattle.std.proofs.Common.{◌≡◌, ℕ, ◌+◌, List, [], ◌∷◌, ◌++◌, length, refl, sym, ap, subst, ◌∙◌, append_assoc, arith}
-use Rattle.std.proofs.lemmas.List.{length-append}
-use Rattle.hn_tlv.specs.Grammar.{PlainTlv, IsTlv, spelling, IsTlvList, HasTlvs, IsFault, FirstFault}
+use Rattle.hn_base.proofs.Names.{◌≡◌, ℕ, ◌+◌, List, [], ◌∷◌, ◌++◌, length, refl, sym, ap, subst, ◌∙◌, append_assoc, arith}
+use Rattle.hn_tlv.proofs.Names.{length-append, PlainTlv, IsTlv, spelling, IsTlvList, HasTlvs, IsFault, FirstFault}
 use Rattle.hn_base.proofs.BeginningOfBytes as begin
 use Rattle.hn_tlv.proofs.BeginningOfTlvs.{outcome, tlv_told}
 

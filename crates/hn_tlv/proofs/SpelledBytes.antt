@@ -1,11 +1,7 @@
 -- What TLVs are spelled as is bytes.
-use Rattle.std.proofs.Common.{ℕ, List, [], ◌∷◌, ◌++◌, length, replicate, arith}
-use Rattle.std.specs.Prelude.{All}
-use Rattle.std.specs.Int.{w16, to_be_bytes}
-use Rattle.std.proofs.lemmas.List.Elements.{All-append, All-nil, All-replicate, All-same}
-use Rattle.hn_base.specs.Byte.{IsByte}
+use Rattle.hn_base.proofs.Names.{ℕ, List, [], ◌∷◌, ◌++◌, length, replicate, arith, All, w16, to_be_bytes, All-append, All-nil, All-replicate, All-same, IsByte}
+use Rattle.hn_tlv.proofs.Names.{PlainTlv, IsTlv, padding, header, unpadded, spelling, IsTlvList}
 use Rattle.hn_base.proofs.BigEndian.{number_bytes}
-use Rattle.hn_tlv.specs.Grammar.{PlainTlv, IsTlv, padding, header, unpadded, spelling, IsTlvList}
 
 pub spelling_bytes : (tlv : PlainTlv) → IsTlv tlv → All IsByte (spelling tlv)
 spelling_bytes tlv valid =

@@ -1,10 +1,8 @@
 -- What a text is whose first TLV was taken apart.
-use Rattle.std.proofs.Common.{◌≡◌, ℕ, ◌+◌, ◌^◌, ◌<◌, List, [], ◌∷◌, ◌++◌, length, get_or, drop, replicate, sym, ap, subst, ◌∙◌, append_assoc, arith, inl, inr}
-use Rattle.std.proofs.lemmas.List.{get_or_default, get_or_append_left, get_or-append-add}
-use Rattle.hn_tlv.specs.Grammar.{PlainTlv, IsTlv, padding, tlv_size, header, unpadded, spelling, IsTlvAt, IsFault}
-use Rattle.hn_tlv.specs.Padding.{IsPaddingFault}
+use Rattle.hn_base.proofs.Names.{◌≡◌, ℕ, ◌+◌, ◌^◌, ◌<◌, List, [], ◌∷◌, ◌++◌, length, get_or, drop, replicate, sym, ap, subst, ◌∙◌, append_assoc, arith, inl, inr, get_or_default, get_or_append_left}
+use Rattle.hn_base.proofs.Names.{get_or-append-add}
+use Rattle.hn_tlv.proofs.Names.{PlainTlv, IsTlv, padding, tlv_size, header, unpadded, spelling, IsTlvAt, IsFault, IsPaddingFault, AreOctets}
 use Rattle.hn_tlv.proofs.TlvAtPlace.{read_again}
-use Rattle.hn_base.proofs.BigEndian.{AreOctets}
 
 -- type, length and value, as they were read, are those of a TLV
 pub record IsSplit (bytes : List ℕ) (tlv : PlainTlv) (rest : List ℕ) : Type 0 where

@@ -1,7 +1,7 @@
 -- A TLV at a place.
-use Rattle.std.proofs.Common.{◌≡◌, ℕ, ◌+◌, ◌-◌, ◌*◌, ◌≤◌, List, [], ◌∷◌, ◌++◌, length, take, drop, replicate, refl, sym, ap, subst, ◌∙◌, append_assoc, arith}
-use Rattle.std.proofs.lemmas.List.{append-nil, take-append-drop, length-append, length-replicate, length-take-le, length_push, drop-drop, drop_at, take_at, take_all}
-use Rattle.hn_tlv.specs.Grammar.{PlainTlv, IsTlv, padding, tlv_size, spelling, IsTlvList, IsTlvAt, IsFault, FirstFault}
+use Rattle.hn_base.proofs.Names.{◌≡◌, ℕ, ◌+◌, ◌-◌, ◌*◌, ◌≤◌, List, [], ◌∷◌, ◌++◌, length, take, drop, replicate, refl, sym, ap, subst, ◌∙◌, append_assoc, arith, append-nil, take-append-drop}
+use Rattle.hn_base.proofs.Names.{length-replicate, length-take-le, length_push, drop-drop, drop_at, take_at, take_all}
+use Rattle.hn_tlv.proofs.Names.{length-append, PlainTlv, IsTlv, padding, tlv_size, spelling, IsTlvList, IsTlvAt, IsFault, FirstFault}
 use Rattle.hn_tlv.proofs.OneReading.{same_begin, joined, rest_of}
 
 pub length-spelling : (t : PlainTlv) → length (spelling t) ≡ tlv_size (length t.value)

@@ -1,8 +1,6 @@
 -- What hosts are told is what the routers of a sound link hold.
-use Rattle.std.proofs.Common.{◌≡◌, ◌≢◌, ◌∙◌, ◌<◌, ◌^◌, ℕ, List, Contains, inl, inr, refl, sym, ap, subst, arith}
-use Rattle.std.proofs.lemmas.List.Elements.{All-contains, recursion_from_All}
+use Rattle.hn_base.proofs.Names.{◌≡◌, ◌≢◌, ◌∙◌, ◌<◌, ◌^◌, ℕ, List, Contains, inl, inr, refl, sym, ap, subst, arith, All-contains, recursion_from_All, PlainPrefix, IsPrefix, IsWithin, Overlaps}
 use Rattle.hn_base.proofs.Elements.{all_of}
-use Rattle.hn_base.specs.Prefix.{PlainPrefix, IsPrefix, IsWithin, Overlaps}
 use Rattle.hn_base.specs.declared.ids.EpId.{EpId}
 use Rattle.hn_base.specs.declared.version.Version.{Version}
 use Rattle.hn_advert.specs.Advert.{IsAdvert, IsInfo, IsInRange, advert_bytes}

@@ -1,17 +1,13 @@
 -- The fields of a value are read from its bytes.
-use Rattle.std.proofs.Common.{◌≡◌, ℕ, suc, ◌+◌, ◌-◌, ◌/◌, ◌%◌, ◌^◌, ◌<◌, ◌≤◌, ◌⊎◌, inl, inr, List, [], ◌∷◌, ◌++◌, length, get_or, take, drop, refl, sym, ap, subst, ◌∙◌, append_assoc, arith}
-use Rattle.std.specs.Int.{w32, w128, to_be_bytes, from_be_bytes}
-use Rattle.std.proofs.lemmas.Bool.{cases_eq, cases_lt}
-use Rattle.std.proofs.lemmas.List.{append-nil, length-append, length-take-le, take-append-drop, take_at, drop_at}
-use Rattle.std.proofs.lemmas.List.Elements.{All-from_recursion}
-use Rattle.std.proofs.lemmas.Nat.{from_be_bytes-to_be_bytes_4}
-use Rattle.hn_base.specs.Byte.{IsByte}
-use Rattle.hn_base.specs.Prefix.{PlainPrefix, IsPrefix}
-use Rattle.hn_base.proofs.BigEndian.{Bytes, Bytes-take, Bytes-drop, word_is, word_small, whole_is, front_small, number_again}
-use Rattle.hn_base.specs.Causes.{OnCause, NoCause}
-use Rattle.hn_typed.specs.Fields.{two_in_byte, prefix_field, bytes_for, IsHash}
-use Rattle.hn_typed.specs.Shape.{ValueField, Word, Ipv6, Hash, Prefixed, Halves, LowerHalf, Reserved, IsInField, AreInFields, field_bytes, fields_bytes}
-use Rattle.hn_typed.specs.Fault.{prefix_len, prefix_bits, field_size, IsFieldFault}
+use Rattle.hn_base.proofs.Names.{◌≡◌, ℕ, suc, ◌+◌, ◌-◌, ◌/◌, ◌%◌, ◌^◌, ◌<◌, ◌≤◌, ◌⊎◌, inl, inr, List, [], ◌∷◌, ◌++◌, length, get_or, take, drop, refl, sym, ap, subst, ◌∙◌, append_assoc, arith, w32}
+use Rattle.hn_base.proofs.Names.{w128, to_be_bytes, from_be_bytes, cases_eq, cases_lt, append-nil, length-take-le, take-append-drop, take_at, drop_at, All-from_recursion, from_be_bytes-to_be_bytes_4}
+use Rattle.hn_base.proofs.Names.{IsByte, PlainPrefix, IsPrefix, OnCause, NoCause}
+use Rattle.hn_typed.proofs.Names.{length-append, Bytes, Bytes-take, Bytes-drop, whole_is, two_in_byte, prefix_field, bytes_for, ValueField, Word, Ipv6, Hash, Prefixed, Halves, LowerHalf, Reserved}
+use Rattle.hn_typed.proofs.Names.{AreInFields, field_bytes, fields_bytes, prefix_bits, field_size, IsFieldFault}
+use Rattle.hn_base.proofs.BigEndian.{word_is, word_small, front_small, number_again}
+use Rattle.hn_typed.specs.Fields.{IsHash}
+use Rattle.hn_typed.specs.Shape.{IsInField}
+use Rattle.hn_typed.specs.Fault.{prefix_len}
 use Rattle.hn_typed.proofs.Prefixes.{prefix_read, length-prefix_field, bits_read}
 
 -- ---- one field

@@ -1,11 +1,7 @@
 -- The first cause why a value decodes to no item, from what its reading met.
-use Rattle.std.proofs.Common.{◌≡◌, ℕ, ◌+◌, ◌-◌, ◌<◌, ◌≤◌, List, [], ◌∷◌, ◌++◌, length, drop, refl, sym, ap, subst, ◌∙◌, arith, inl, inr}
-use Rattle.std.specs.Str.{IsUtf8}
-use Rattle.std.proofs.lemmas.List.{length-append, drop_at}
-use Rattle.hn_base.specs.Prefix.{PlainPrefix, IsPrefix}
-use Rattle.hn_typed.specs.Fields.{prefix_field, ThenSubs, HasSubs}
-use Rattle.hn_typed.specs.Shape.{ValueField, Prefixed, After, Subs, Text}
-use Rattle.hn_typed.specs.Fault.{field_size, IsFieldFault, LacksSubs, IsFirstCause}
+use Rattle.hn_base.proofs.Names.{◌≡◌, ℕ, ◌+◌, ◌-◌, ◌<◌, ◌≤◌, List, [], ◌∷◌, ◌++◌, length, drop, refl, sym, ap, subst, ◌∙◌, arith, inl, inr, IsUtf8, drop_at, PlainPrefix, IsPrefix}
+use Rattle.hn_typed.proofs.Names.{length-append, prefix_field, ThenSubs, HasSubs, ValueField, Prefixed, After, Subs, Text, field_size, IsFieldFault, LacksSubs}
+use Rattle.hn_typed.specs.Fault.{IsFirstCause}
 use Rattle.hn_typed.specs.Reading.{IsFirstIn, IsPastField}
 use Rattle.hn_typed.proofs.FieldsRead.{IsSound, sound, field_len}
 

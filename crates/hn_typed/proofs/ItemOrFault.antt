@@ -1,19 +1,13 @@
 -- Each TLV decodes to an item or has a fault.
-use Rattle.std.proofs.Common.{◌≡◌, ℕ, zero, suc, ◌+◌, ◌<◌, ◌⊎◌, inl, inr, List, [], ◌∷◌, ◌++◌, length, get_or, drop, replicate, refl, sym, ap, subst, ◌∙◌, append_assoc, arith}
+use Rattle.hn_base.proofs.Names.{◌≡◌, ℕ, zero, suc, ◌+◌, ◌<◌, ◌⊎◌, inl, inr, List, [], ◌∷◌, ◌++◌, length, get_or, drop, replicate, refl, sym, ap, subst, ◌∙◌, append_assoc, arith, cases_Bool}
+use Rattle.hn_base.proofs.Names.{false≢true, length-replicate, length-drop, drop_at, drop_all, All-from_recursion, recursion_from_All, IsByte}
+use Rattle.hn_typed.proofs.Names.{length-append, Bytes, Bytes-drop, PlainTlv, padding, HasTlvs, PlainItem, ThenSubs, ValueField, After, Subs, Text, Anything, shape, samples, sample_among, AreInFields}
+use Rattle.hn_typed.proofs.Names.{fields_bytes, field_bytes, HasOtherKind, IsItem, IsValue, field_size, LacksSubs, IsAfterFault, IsItemFault}
 use Rattle.std.specs.Str.{is_utf8}
-use Rattle.std.proofs.lemmas.Bool.{cases_Bool, false≢true}
-use Rattle.std.proofs.lemmas.List.{length-append, length-replicate, length-drop, drop_at, drop_all}
-use Rattle.std.proofs.lemmas.List.Elements.{All-from_recursion, recursion_from_All}
 use Rattle.std.proofs.lemmas.Str.{IsUtf8-from_is_utf8, is_utf8-from_IsUtf8}
-use Rattle.hn_base.specs.Byte.{IsByte}
-use Rattle.hn_base.proofs.BigEndian.{Bytes, Bytes-drop}
-use Rattle.hn_tlv.specs.Grammar.{PlainTlv, IsTlv, padding, HasTlvs, FirstFault}
+use Rattle.hn_tlv.specs.Grammar.{IsTlv, FirstFault}
 use Rattle.hn_tlv.specs.Laws.{ListHasNoFirstFault, ListOrFirstFault}
-use Rattle.hn_typed.specs.Item.{PlainItem}
-use Rattle.hn_typed.specs.Fields.{ThenSubs}
-use Rattle.hn_typed.specs.Shape.{ValueField, After, Subs, Text, Anything, shape, samples, sample_among, AreInFields, fields_bytes, field_bytes}
-use Rattle.hn_typed.specs.Table.{HasOtherKind, IsItem, IsValue}
-use Rattle.hn_typed.specs.Fault.{field_size, LacksSubs, IsAfterFault, IsFirstCause, IsItemFault}
+use Rattle.hn_typed.specs.Fault.{IsFirstCause}
 use Rattle.hn_typed.proofs.FieldsRead.{field_at, fields_at, fields_size, bytes_first, both_in, IsSound, BeginsWith, begins_soundly, begun_len, field_or_fault, are_at}
 use Rattle.hn_typed.proofs.FirstCauses.{past, in_field}
 use Rattle.hn_typed.proofs.Samples.{with_bytes, tail_at, tail_in, held_by, held_is_item, sample_has_kind}

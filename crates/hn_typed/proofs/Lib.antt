@@ -1,3 +1,4 @@
+mod Names
 pub mod Prefixes
 pub mod FieldsRead
 pub mod FirstCauses

@@ -1,13 +1,9 @@
 -- A TLV that decodes to an item has no fault, and a TLV has one fault only.
-use Rattle.std.proofs.Common.{◌≡◌, ℕ, ◌+◌, List, [], ◌∷◌, ◌++◌, length, get_or, drop, refl, sym, ap, subst, ◌∙◌, append_assoc, arith, inl, inr}
-use Rattle.std.proofs.lemmas.List.{length-append, drop_at}
-use Rattle.hn_tlv.specs.Grammar.{PlainTlv}
-use Rattle.hn_base.specs.Causes.{OnCause, NoCause}
+use Rattle.hn_base.proofs.Names.{◌≡◌, ℕ, ◌+◌, List, [], ◌∷◌, ◌++◌, length, get_or, drop, refl, sym, ap, subst, ◌∙◌, append_assoc, arith, inl, inr, drop_at, OnCause, NoCause}
+use Rattle.hn_typed.proofs.Names.{length-append, PlainTlv, PlainItem, ValueField, Prefixed, After, Subs, Text, Anything, shape, shape_of_kind, AreInFields, field_bytes, fields_bytes, IsItem}
+use Rattle.hn_typed.proofs.Names.{field_size, IsFieldFault, IsAfterFault, IsItemFault}
 use Rattle.hn_base.proofs.FirstCause.{one_cause}
-use Rattle.hn_typed.specs.Item.{PlainItem}
-use Rattle.hn_typed.specs.Shape.{ValueField, Prefixed, After, Subs, Text, Anything, shape, shape_of_kind, AreInFields, field_bytes, fields_bytes}
-use Rattle.hn_typed.specs.Table.{IsItem}
-use Rattle.hn_typed.specs.Fault.{field_size, IsFieldFault, IsAfterFault, IsFirstCause, IsItemFault}
+use Rattle.hn_typed.specs.Fault.{IsFirstCause}
 use Rattle.hn_typed.proofs.FieldsRead.{bytes_first, first_in, field_len, sound}
 use Rattle.hn_typed.proofs.Samples.{fault_of_item}
 use Rattle.hn_typed.proofs.OneItem.{is_after, in_fields}

@@ -1,14 +1,7 @@
 -- A TLV decodes to one item at most.
-use Rattle.std.proofs.Common.{◌≡◌, ◌≢◌, ℕ, ◌+◌, List, [], ◌∷◌, ◌++◌, length, drop, replicate, refl, sym, ap, subst, ◌∙◌, arith, inl, inr, ⊎_elim}
-use Rattle.std.proofs.lemmas.List.{length-replicate, drop_at, drop_all}
-use Rattle.std.specs.Str.{IsUtf8}
-use Rattle.hn_tlv.specs.Grammar.{PlainTlv, padding, HasTlvs}
-use Rattle.hn_typed.specs.Item.{PlainItem, Other}
-use Rattle.hn_typed.specs.Fields.{ThenSubs}
-use Rattle.hn_typed.specs.Shape.{ValueField, After, Subs, Text, Anything, shape, samples, sample_among, AreInFields, fields_bytes}
-use Rattle.hn_typed.specs.Table.{HasOtherKind, IsValue, InRange, IsItem}
-use Rattle.hn_typed.specs.Fault.{IsAfterFault}
-use Rattle.hn_typed.specs.Written.{bytes_after, tail_of}
+use Rattle.hn_base.proofs.Names.{◌≡◌, ◌≢◌, ℕ, ◌+◌, List, [], ◌∷◌, ◌++◌, length, drop, replicate, refl, sym, ap, subst, ◌∙◌, arith, inl, inr, ⊎_elim, length-replicate, drop_at, drop_all, IsUtf8}
+use Rattle.hn_typed.proofs.Names.{PlainTlv, padding, HasTlvs, PlainItem, Other, ThenSubs, ValueField, After, Subs, Text, Anything, shape, samples, sample_among, AreInFields, fields_bytes}
+use Rattle.hn_typed.proofs.Names.{HasOtherKind, IsValue, InRange, IsItem, IsAfterFault, bytes_after, tail_of}
 use Rattle.hn_typed.proofs.FieldsRead.{fields_at, fields_size, are_at}
 use Rattle.hn_typed.proofs.Samples.{filled, filled_itself, tail_at, tail_in, held_by, held_by_sample}
 

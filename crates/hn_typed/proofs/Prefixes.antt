@@ -1,11 +1,8 @@
 -- A prefix field that was read, and one that was written.
-use Rattle.std.proofs.Common.{◌≡◌, ℕ, ◌+◌, ◌-◌, ◌*◌, ◌%◌, ◌^◌, ◌≤◌, List, ◌∷◌, ◌++◌, length, take, drop, sym, ap, ◌∙◌, arith}
-use Rattle.std.specs.Int.{w128, to_be_bytes, from_be_bytes}
-use Rattle.std.proofs.lemmas.List.{take-append-drop, length-take-le, take_at}
-use Rattle.hn_base.specs.Prefix.{PlainPrefix, IsPrefix}
-use Rattle.hn_typed.specs.Fields.{prefix_field, bytes_for}
-use Rattle.hn_typed.specs.Fault.{prefix_bits}
-use Rattle.hn_base.proofs.BigEndian.{Bytes, front_is, front_again, zeros_below}
+use Rattle.hn_base.proofs.Names.{◌≡◌, ℕ, ◌+◌, ◌-◌, ◌*◌, ◌%◌, ◌^◌, ◌≤◌, List, ◌∷◌, ◌++◌, length, take, drop, sym, ap, ◌∙◌, arith, w128, to_be_bytes, from_be_bytes, take-append-drop, length-take-le}
+use Rattle.hn_base.proofs.Names.{take_at, PlainPrefix, IsPrefix}
+use Rattle.hn_typed.proofs.Names.{prefix_field, bytes_for, prefix_bits, Bytes}
+use Rattle.hn_base.proofs.BigEndian.{front_is, front_again, zeros_below}
 
 pub prefix_read : (field tail front after : List ℕ) (len bits : ℕ) → field ≡ len ∷ tail → front ≡ take (bytes_for len) tail → after ≡ drop (bytes_for len) tail
     → length front ≡ bytes_for len → len ≤ 128 → Bytes front → bits ≡ from_be_bytes w128 front

@@ -1,14 +1,12 @@
 -- The kinds of TLV: a sample of a kind is filled with what a value holds.
-use Rattle.std.proofs.Common.{◌≡◌, ◌≢◌, ℕ, ◌^◌, ◌<◌, ◌⊎◌, inl, inr, List, [], ◌∷◌, map, drop, refl, sym, ap, subst, ◌∙◌, eq-eqb, ne_eqb, cond, eqb}
-use Rattle.std.specs.List.{AllByRecursion}
-use Rattle.std.proofs.lemmas.Bool.{cases_eq}
-use Rattle.hn_tlv.specs.Grammar.{PlainTlv, padding}
-use Rattle.hn_typed.specs.Item.{PlainItem, RequestNetwork, RequestNode, NodeEndpoint, NetworkState, NodeState, Peer, KeepAlive, Version, External, Delegated, Assigned, Address, Other}
-use Rattle.hn_typed.specs.Shape.{ValueField, Word, Ipv6, Hash, Prefixed, Halves, LowerHalf, Reserved, After, Subs, Text, Anything}
-use Rattle.hn_typed.specs.Shape.{Shape, shape, samples, sample_among, shape_of_kind, AreInFields, fields_bytes}
-use Rattle.hn_typed.specs.Table.{IsOtherKind, HasOtherKind, IsValue, InRange, IsItem}
-use Rattle.hn_typed.specs.Fault.{IsFirstCause, IsItemFault}
-use Rattle.hn_typed.specs.Written.{tail_of}
+use Rattle.hn_base.proofs.Names.{◌≡◌, ◌≢◌, ℕ, ◌^◌, ◌<◌, ◌⊎◌, inl, inr, List, [], ◌∷◌, map, drop, refl, sym, ap, subst, ◌∙◌, cond, eqb, AllByRecursion, cases_eq}
+use Rattle.hn_typed.proofs.Names.{PlainTlv, padding, PlainItem, Other, ValueField, Word, Ipv6, Hash, Prefixed, Halves, LowerHalf, Reserved, After, Subs, Text, Anything, shape, samples, sample_among}
+use Rattle.hn_typed.proofs.Names.{shape_of_kind, AreInFields, fields_bytes, HasOtherKind, IsValue, InRange, IsItem, IsItemFault, tail_of}
+use Rattle.std.proofs.Common.{eq-eqb, ne_eqb}
+use Rattle.hn_typed.specs.Item.{RequestNetwork, RequestNode, NodeEndpoint, NetworkState, NodeState, Peer, KeepAlive, Version, External, Delegated, Assigned, Address}
+use Rattle.hn_typed.specs.Shape.{Shape}
+use Rattle.hn_typed.specs.Table.{IsOtherKind}
+use Rattle.hn_typed.specs.Fault.{IsFirstCause}
 use Rattle.hn_typed.proofs.FieldsRead.{fields_at, fields_size}
 
 -- ---- an item of the kind of a sample, from its fields and what follows them: a row for each kind

@@ -1,14 +1,8 @@
 -- The TLV that is written for an item decodes to it.
-use Rattle.std.proofs.Common.{◌≡◌, ℕ, ◌^◌, ◌<◌, ◌≤◌, List, [], ◌∷◌, ◌++◌, length, replicate, All, refl, ap, ◌∙◌, append_assoc, arith, inl, inr}
-use Rattle.std.proofs.lemmas.List.{append-nil}
-use Rattle.std.proofs.lemmas.List.Elements.{All-append, All-replicate}
-use Rattle.hn_base.specs.Byte.{IsByte}
-use Rattle.hn_tlv.specs.Grammar.{PlainTlv, padding, HasTlvs}
-use Rattle.hn_typed.specs.Item.{PlainItem}
-use Rattle.hn_typed.specs.Fields.{HasSubs}
-use Rattle.hn_typed.specs.Shape.{After, Subs, Text, Anything, shape, fields_bytes}
-use Rattle.hn_typed.specs.Table.{IsValue, IsItem}
-use Rattle.hn_typed.specs.Written.{bytes_after, zeros_before, zeros_after, AreTlvs, IsTextAfter, fixed_of, zeros_of, tail_of, value_of, tlv_of, IsWritable}
+use Rattle.hn_base.proofs.Names.{◌≡◌, ℕ, ◌^◌, ◌<◌, ◌≤◌, List, [], ◌∷◌, ◌++◌, length, replicate, refl, ap, ◌∙◌, append_assoc, arith, inl, inr, append-nil, All-append, All-replicate, IsByte}
+use Rattle.hn_typed.proofs.Names.{All, PlainTlv, padding, HasTlvs, PlainItem, HasSubs, After, Subs, Text, Anything, shape, fields_bytes, IsValue, IsItem, bytes_after, fixed_of, tail_of, tlv_of}
+use Rattle.hn_typed.proofs.Names.{IsWritable}
+use Rattle.hn_typed.specs.Written.{zeros_before, zeros_after, AreTlvs, IsTextAfter, zeros_of, value_of}
 
 subs_written : (fixed subs : List ℕ) → HasTlvs subs → HasSubs fixed subs (fixed ++ replicate (zeros_before (length fixed) subs) 0 ++ subs)
 subs_written fixed [] tlvs = ([], ap (λ (z : List ℕ). z ++ []) (append-nil fixed), (tlvs, inl (refl, refl)))

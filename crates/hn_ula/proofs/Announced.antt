@@ -1,14 +1,7 @@
 -- The prefix that a router announces is one.
-use Rattle.std.proofs.Common.{◌<◌, ◌^◌, ℕ, List, [], ◌∷◌, Contains, sym, ap, subst, inl, inr, arith}
-use Rattle.std.specs.Prelude.{All}
-use Rattle.std.proofs.lemmas.List.Elements.{All-contains}
-use Rattle.hn_base.specs.Prefix.{PlainPrefix, IsPrefix}
-use Rattle.hn_base.proofs.AscendingLists.{Contains-head}
-use Rattle.hn_rules.specs.declared.state.State.{State}
+use Rattle.hn_base.proofs.Names.{◌<◌, ◌^◌, ℕ, List, [], ◌∷◌, Contains, sym, ap, subst, inl, inr, arith, All, All-contains, PlainPrefix, IsPrefix}
+use Rattle.hn_ula.proofs.Names.{Contains-head, State, Announces, Withdraws, made_of, Ula, Announce}
 use Rattle.hn_ula.specs.Laws.{AnnouncedIsPrefix}
-use Rattle.hn_ula.specs.Ula.{Announces, Withdraws, made_of}
-use Rattle.hn_ula.specs.declared.decision.Ula.{Ula}
-use Rattle.hn_ula.specs.declared.decision.Ula.TheVariants.{Announce}
 
 made_is_prefix : (first second : ℕ) → first < 2 ^ 32 → IsPrefix (made_of first second)
 made_is_prefix first second small = record {

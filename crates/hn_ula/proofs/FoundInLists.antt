@@ -1,21 +1,12 @@
 -- What the lists of a router say of it.
-use Rattle.std.proofs.Common.{◌≡◌, ◌≢◌, ◌∙◌, ◌↔◌, ◌<◌, ◌≤◌, ℕ, Bool, true, false, not, IsTrue, List, [], ◌∷◌, Contains, Option, Some, None, is_some, refl, sym, ap, subst, inl, inr, ⊎_elim, arith}
-use Rattle.std.proofs.lemmas.Bool.{cases_Bool, cases_lt, false≢true, not-true}
-use Rattle.std.proofs.lemmas.Bool.Decides.{not_from_Decides}
-use Rattle.hn_base.specs.Prefix.{PlainPrefix}
-use Rattle.hn_base.specs.declared.ids.NodeId.{NodeId}
-use Rattle.hn_base.proofs.AscendingLists.{Contains-head, nothing_in}
+use Rattle.hn_base.proofs.Names.{◌≡◌, ◌≢◌, ◌∙◌, ◌↔◌, ◌<◌, ◌≤◌, ℕ, Bool, true, false, not, IsTrue, List, [], ◌∷◌, Contains, Option, Some, None, is_some, refl, sym, ap, subst, inl, inr, ⊎_elim, arith}
+use Rattle.hn_base.proofs.Names.{cases_Bool, cases_lt, false≢true, not-true, not_from_Decides, PlainPrefix}
+use Rattle.hn_ula.proofs.Names.{NodeId, Contains-head, nothing_in, Delegated, PlainView, seen_by, State, IsOwnOf, IsGreatestOwn, MustGo, HasTwo, IsToAnnounce, AreGenerated, HasOtherOf, HasPrefixAbove}
+use Rattle.hn_ula.proofs.Names.{HasForeign, HasGreater, IsGreatestFound, IsOwnFound, Generated}
 use Rattle.hn_base.proofs.Prefixes.{is_one_prefix, prefix_decided}
 use Rattle.hn_deleg.specs.Used.{AreUsable}
-use Rattle.hn_deleg.specs.declared.delegated.Delegated.{Delegated}
 use Rattle.hn_deleg.specs.Laws.{UsableIsUnique}
-use Rattle.hn_data.specs.View.{PlainView}
-use Rattle.hn_rules.specs.Seen.{seen_by}
-use Rattle.hn_rules.specs.declared.state.State.{State}
-use Rattle.hn_ula.specs.Ula.{IsGenerated, IsForeign, IsOwnOf, IsGreatestOwn, MustGo, HasTwo, IsToAnnounce}
-use Rattle.hn_ula.specs.Said.{AreGenerated}
-use Rattle.hn_ula.specs.Found.{HasOtherOf, HasPrefixAbove, HasForeign, HasGreater, IsGreatestFound, IsOwnFound}
-use Rattle.hn_ula.specs.declared.generated.Generated.{Generated}
+use Rattle.hn_ula.specs.Ula.{IsGenerated, IsForeign}
 
 -- ---- a foreign prefix
 

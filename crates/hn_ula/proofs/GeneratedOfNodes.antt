@@ -1,12 +1,8 @@
 -- The generated prefixes that the delegations of nodes make.
-use Rattle.std.proofs.Common.{◌≡◌, ◌↔◌, List, sym, ap, subst}
-use Rattle.hn_addr.specs.OfNodes.{AreOfNodes}
-use Rattle.hn_base.specs.declared.ids.NodeId.{NodeId}
-use Rattle.hn_data.specs.Delegations.{HasDelegation}
-use Rattle.hn_data.specs.View.{PlainView}
+use Rattle.hn_base.proofs.Names.{◌≡◌, ◌↔◌, List, sym, ap, subst}
+use Rattle.hn_ula.proofs.Names.{AreOfNodes, NodeId, HasDelegation, PlainView, IsOfDelegation, AreGenerated, Generated}
 use Rattle.hn_data.specs.declared.said.Delegation.{Delegation}
-use Rattle.hn_ula.specs.Said.{IsLocalSite, IsOfDelegation, AreGenerated}
-use Rattle.hn_ula.specs.declared.generated.Generated.{Generated}
+use Rattle.hn_ula.specs.Said.{IsLocalSite}
 
 -- a delegation makes one where its prefix is a generated one
 pub one_made : (node : NodeId) (d : Delegation) → IsLocalSite d.prefix → (g : Generated) → IsOfDelegation node d g ↔ (record { node = node; prefix = d.prefix } ≡ g)

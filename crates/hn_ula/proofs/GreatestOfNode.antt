@@ -1,16 +1,11 @@
 -- The greatest prefix of a node, one element of a list after the other.
-use Rattle.std.proofs.Common.{◌≡◌, ◌≢◌, ◌∙◌, ◌⊎◌, ℕ, ◌+◌, List, [], ◌∷◌, ◌++◌, take, slice_get, Option, Some, None, Ordering, refl, sym, ap, subst, inl, inr, ⊎_elim}
-use Rattle.std.specs.Prelude.{MatchOption}
-use Rattle.std.specs.declared.cmp.Ordering.TheVariants.{Less, Equal, Greater}
-use Rattle.std.specs.Ordering.{ordering_reverse}
-use Rattle.std.proofs.lemmas.List.Elements.{Contains-push, Contains-push_cases, Contains-append_left}
-use Rattle.hn_base.specs.Prefix.{PlainPrefix, prefix_cmp}
-use Rattle.hn_base.specs.declared.ids.NodeId.{NodeId}
-use Rattle.hn_base.proofs.AscendingLists.{nothing_in, not_below_itself}
+use Rattle.hn_base.proofs.Names.{◌≡◌, ◌≢◌, ◌∙◌, ◌⊎◌, ℕ, ◌+◌, List, [], ◌∷◌, ◌++◌, take, slice_get, Option, Some, None, Ordering, refl, sym, ap, subst, inl, inr, ⊎_elim, MatchOption, Less, Equal}
+use Rattle.hn_base.proofs.Names.{Greater, ordering_reverse, Contains-push, Contains-push_cases, Contains-append_left, PlainPrefix, prefix_cmp}
+use Rattle.hn_ula.proofs.Names.{NodeId, nothing_in, IsGreatestFound, Generated}
+use Rattle.hn_base.proofs.AscendingLists.{not_below_itself}
 use Rattle.hn_base.proofs.FrontOfList.{front_at}
 use Rattle.hn_base.proofs.Prefixes.{prefix_total, exact_prefix}
-use Rattle.hn_ula.specs.Found.{HasOf, IsGreater, IsGreatestFound}
-use Rattle.hn_ula.specs.declared.generated.Generated.{Generated}
+use Rattle.hn_ula.specs.Found.{HasOf, IsGreater}
 
 -- ---- the order of prefixes
 

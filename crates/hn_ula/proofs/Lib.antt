@@ -1,3 +1,4 @@
+mod Names
 mod GeneratedOfNodes
 mod GreatestOfNode
 mod FoundInLists

@@ -1,18 +1,12 @@
 -- What is decided by what was found, and that it is one thing.
-use Rattle.std.proofs.Common.{◌≡◌, ◌∙◌, ◌↔◌, ℕ, true, false, not, IsTrue, Option, Some, None, List, [], ◌∷◌, refl, sym, ap, subst, inl, inr}
-use Rattle.std.proofs.lemmas.Bool.{false≢true, not-true, not_from_false, false_from_ne_true}
-use Rattle.std.proofs.lemmas.List.{append-nil}
-use Rattle.hn_base.specs.Words.{IsAt, Took}
-use Rattle.hn_base.specs.Words.{Begins}
-use Rattle.hn_base.specs.Prefix.{PlainPrefix}
+use Rattle.hn_base.proofs.Names.{◌≡◌, ◌∙◌, ◌↔◌, ℕ, true, false, not, IsTrue, Option, Some, None, List, [], ◌∷◌, refl, sym, ap, subst, inl, inr, false≢true, not-true, not_from_false}
+use Rattle.hn_base.proofs.Names.{false_from_ne_true, append-nil, IsAt, Took, Begins, PlainPrefix}
+use Rattle.hn_ula.proofs.Names.{State, IsGreatestOwn, MustGo, HasTwo, IsToAnnounce, Withdraws, Announces, made_of, Ula, Keep, Announce, Withdraw, IsOwnFound}
 use Rattle.hn_base.proofs.FirstCause.{both_lines}
 use Rattle.hn_base.proofs.FirstWords.{same_taken, begins_along}
 use Rattle.hn_base.proofs.FrontOfList.{head_is, tail_is}
-use Rattle.hn_rules.specs.declared.state.State.{State}
-use Rattle.hn_ula.specs.Ula.{IsGreatestOwn, MustGo, HasTwo, IsToAnnounce, Withdraws, Announces, Decides, IsUlaStill, made_of}
-use Rattle.hn_ula.specs.declared.decision.Ula.{Ula}
-use Rattle.hn_ula.specs.declared.decision.Ula.TheVariants.{Keep, Announce, Withdraw}
-use Rattle.hn_ula.specs.Found.{IsOwnFound, IsFound}
+use Rattle.hn_ula.specs.Ula.{Decides, IsUlaStill}
+use Rattle.hn_ula.specs.Found.{IsFound}
 use Rattle.hn_ula.specs.declared.found.Found.{Found}
 use Rattle.hn_ula.proofs.GreatestOfNode.{same_of_both}
 

@@ -1,22 +1,12 @@
 -- Over each stream of words a router decides something: it cannot be that it does not.
-use Rattle.std.proofs.Common.{◌≡◌, ◌≢◌, ◌+◌, ◌-◌, ◌*◌, ◌/◌, ◌^◌, ◌<◌, ◌≤◌, ℕ, List, [], ◌∷◌, refl, sym, inl, inr, arith}
-use Rattle.std.specs.Cmp.{ranked}
-use Rattle.std.specs.Ordering.{nat_cmp, ordering_then}
+use Rattle.hn_base.proofs.Names.{◌≡◌, ◌≢◌, ◌+◌, ◌-◌, ◌*◌, ◌/◌, ◌^◌, ◌<◌, ◌≤◌, ℕ, List, [], ◌∷◌, refl, sym, inl, inr, arith, ranked, nat_cmp, ordering_then, Less, Equal, Greater, lt-div-mul-add}
+use Rattle.hn_base.proofs.Names.{pow_pos, LineElse, Some!, PlainPrefix, prefix_cmp, Begins}
+use Rattle.hn_ula.proofs.Names.{State, IsOwnOf, IsGreatestOwn, MustGo, HasTwo, IsToAnnounce, Withdraws, Announces, made_of, Ula, Keep, Announce, Withdraw}
 use Rattle.std.specs.declared.cmp.Ordering.{Ordering}
-use Rattle.std.specs.declared.cmp.Ordering.TheVariants.{Less, Equal, Greater}
-use Rattle.std.proofs.Math.Nat.{lt-div-mul-add}
-use Rattle.std.proofs.lemmas.Nat.{pow_pos}
-use Rattle.hn_base.specs.Causes.{LineElse}
-use Rattle.hn_base.specs.Exists.{Some! }
-use Rattle.hn_base.specs.Prefix.{PlainPrefix, prefix_cmp}
-use Rattle.hn_base.specs.Words.{Begins}
 use Rattle.hn_base.proofs.FirstWords.{begins_next}
 use Rattle.hn_base.proofs.SomeExists.{some_by, some_least, some_then}
-use Rattle.hn_rules.specs.declared.state.State.{State}
 use Rattle.hn_ula.specs.Laws.{HasADecision, DecisionExists}
-use Rattle.hn_ula.specs.Ula.{IsLocal, IsOwnOf, IsGreatestOwn, MustGo, HasTwo, IsToAnnounce, Withdraws, Announces, made_of}
-use Rattle.hn_ula.specs.declared.decision.Ula.{Ula}
-use Rattle.hn_ula.specs.declared.decision.Ula.TheVariants.{Keep, Announce, Withdraw}
+use Rattle.hn_ula.specs.Ula.{IsLocal}
 
 -- ---- the lines of the rule, from the last one on
 

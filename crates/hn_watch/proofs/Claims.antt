@@ -1,13 +1,8 @@
 -- Claims and the hashes that they are of.
-use Rattle.std.proofs.Common.{◌≡◌, ◌≢◌, ◌∙◌, ◌↔◌, ◌⊎◌, ℕ, Bool, false, not, ◌||◌, List, [], ◌∷◌, ◌++◌, Some, None, IsTrue, Any, nat_eq, refl, sym, subst, inl, inr, arith, length-append}
-use Rattle.std.specs.Cmp.Lexicographic.{pointwise, bytes_decides}
-use Rattle.std.proofs.lemmas.Bool.{or_cases, or_left, or_right, not-true, not_from_false, false_from_ne_true, both_ways, false≢true}
-use Rattle.std.proofs.lemmas.List.Elements.{Contains-push_cases}
+use Rattle.hn_base.proofs.Names.{◌≡◌, ◌≢◌, ◌∙◌, ◌↔◌, ◌⊎◌, ℕ, Bool, false, not, List, [], ◌∷◌, ◌++◌, Some, None, IsTrue, Any, refl, sym, subst, inl, inr, arith, length-append, pointwise, bytes_decides}
+use Rattle.hn_base.proofs.Names.{or_cases, or_left, or_right, not-true, not_from_false, false_from_ne_true, both_ways, false≢true, Contains-push_cases, get_or_append_left}
+use Rattle.hn_watch.proofs.Names.{◌||◌, nat_eq, nothing_in, Claim, IsClaimOf}
 use Rattle.std.proofs.lemmas.List.Quantifiers.{Any-push}
-use Rattle.std.proofs.lemmas.List.{get_or_append_left}
-use Rattle.hn_base.proofs.AscendingLists.{nothing_in}
-use Rattle.hn_watch.specs.declared.claim.Claim.{Claim}
-use Rattle.hn_watch.specs.Claim.{IsClaimOf}
 
 -- an element with a fact is still there with one more
 any_more : {X : Type 0} (P : X → Type 0) (xs : List X) (y : X) → Any P xs → Any P (xs ++ y ∷ [])

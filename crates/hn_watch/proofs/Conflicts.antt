@@ -1,37 +1,19 @@
 -- The sequence numbers with which a node is shown with different hashes.
-use Rattle.std.proofs.Common.{◌≡◌, ◌≢◌, ◌∙◌, ◌<◌, ◌≤◌, ◌-◌, ◌^◌, ℕ, Bool, true, false, List, [], ◌∷◌, map, filter, Option, Some, None, Any, All, Contains, refl, sym, ap, subst, inl, inr, ⊎_elim}
-use Rattle.std.proofs.Common.{arith, nat_eq}
-use Rattle.std.specs.Prelude.{◌==◌, ◌&&◌}
-use Rattle.std.specs.List.{AllByRecursion}
+use Rattle.hn_base.proofs.Names.{◌≡◌, ◌≢◌, ◌∙◌, ◌<◌, ◌≤◌, ◌-◌, ◌^◌, ℕ, Bool, true, false, List, [], ◌∷◌, map, filter, Option, Some, None, Any, Contains, refl, sym, ap, subst, inl, inr, ⊎_elim, arith}
+use Rattle.hn_base.proofs.Names.{◌==◌, ◌&&◌, AllByRecursion, Less, Greater, nat_cmp, ordering_then, is_gt, pointwise, bytes_decides, IsTotalOrder, option_and_then, IsExact, cases_Bool, and_parts}
+use Rattle.hn_base.proofs.Names.{and_from, both_ways, cond_both, eqb-true, eq-eqb, tied_itself, by_ranked, nat_cmp_total, length-map, length-filter, All-contains, IsDistinct-from_sorted}
+use Rattle.hn_watch.proofs.Names.{All, nat_eq, Ordering, NodeId, Contains-head, Contains-tail, Contains-cases, Contains-map, Contains-from_map, nothing_in, same_node, Shown, Claim, NodeNumber}
+use Rattle.hn_watch.proofs.Names.{number_cmp, hashes_of, IsClaimOf, AreConflicts}
 use Rattle.std.specs.List.Sorted.{IsStrictlySortedBy}
-use Rattle.std.specs.declared.cmp.Ordering.{Ordering}
-use Rattle.std.specs.declared.cmp.Ordering.TheVariants.{Less, Greater}
 use Rattle.std.specs.declared.ops.Bound.TheVariants.{Included}
-use Rattle.std.specs.Ordering.{nat_cmp, ordering_then, is_gt}
-use Rattle.std.specs.Cmp.Lexicographic.{pointwise, bytes_decides}
-use Rattle.std.specs.Cmp.{IsTotalOrder}
-use Rattle.std.specs.Option.{option_and_then}
 use Rattle.std.proofs.lemmas.Option.{option_and_then_some}
-use Rattle.hn_base.specs.Ascending.{IsExact}
 use Rattle.std.specs.Map.{lookup, keys_of}
 use Rattle.std.specs.BTreeMap.{is_at}
 use Rattle.std.specs.BTreeMap.Range.{range_contains}
-use Rattle.std.proofs.lemmas.Bool.{cases_Bool, and_parts, and_from, both_ways, cond_both, eqb-true, eq-eqb}
-use Rattle.std.proofs.lemmas.Cmp.{tied_itself, ranked, by_ranked, nat_cmp_total, eq_by_cmp_equiv}
-use Rattle.std.proofs.lemmas.List.{length-map}
-use Rattle.std.proofs.lemmas.List.Sums.{length-filter}
-use Rattle.std.proofs.lemmas.List.Elements.{All-contains}
-use Rattle.std.proofs.lemmas.Map.Keys.{IsDistinct-from_sorted}
+use Rattle.std.proofs.lemmas.Cmp.{ranked, eq_by_cmp_equiv}
 use Rattle.std.proofs.lemmas.Map.Views.{lookup-from_Contains, Contains-from_lookup, tells_apart, IsInRange-from_range_contains, range_contains-from_IsInRange}
-use Rattle.hn_base.specs.declared.ids.NodeId.{NodeId}
-use Rattle.hn_base.proofs.AscendingLists.{Contains-head, Contains-tail, Contains-cases, Contains-map, Contains-from_map, nothing_in}
 use Rattle.hn_base.proofs.Elements.{in_filter, from_filter}
-use Rattle.hn_base.proofs.Keys.{same_node}
-use Rattle.hn_watch.specs.declared.shown.Shown.{Shown}
-use Rattle.hn_watch.specs.declared.claim.Claim.{Claim}
-use Rattle.hn_watch.specs.declared.claim.NodeNumber.{NodeNumber}
-use Rattle.hn_watch.specs.Claim.{number_cmp, hashes_of, IsClaimOf}
-use Rattle.hn_watch.specs.Seen.{IsConflict, AreConflicts}
+use Rattle.hn_watch.specs.Seen.{IsConflict}
 use Rattle.hn_watch.specs.Remembered.{is_differing, of_node, conflicts_in}
 use Rattle.hn_watch.proofs.Orders.{number_total, exact_number}
 

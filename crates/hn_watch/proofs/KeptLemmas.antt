@@ -1,11 +1,9 @@
 -- What is kept of a node.
-use Rattle.std.proofs.Common.{◌≡◌, ◌∙◌, ◌⊎◌, true, false, List, [], ◌∷◌, Option, Some, None, Contains, fold, IfSome, IsSome, refl, sym, ap, subst, inl, inr, ⊎_elim}
-use Rattle.std.specs.Prelude.{◌==◌, ◌&&◌}
-use Rattle.std.proofs.lemmas.Bool.{cases_Bool, and_parts, and_from, and_left, and_right, cond-true, cond-false, eqb-true, eq-eqb}
-use Rattle.hn_base.specs.declared.ids.NodeId.{NodeId}
-use Rattle.hn_base.proofs.AscendingLists.{Contains-head, Contains-tail, Contains-cases, nothing_in}
-use Rattle.hn_watch.specs.declared.shown.Shown.{Shown}
-use Rattle.hn_watch.specs.Seen.{is_older, keeping, kept}
+use Rattle.hn_base.proofs.Names.{◌≡◌, ◌∙◌, ◌⊎◌, true, false, List, [], ◌∷◌, Option, Some, None, Contains, IfSome, IsSome, refl, sym, ap, subst, inl, inr, ⊎_elim, ◌==◌, ◌&&◌, cases_Bool, and_parts}
+use Rattle.hn_base.proofs.Names.{and_from, cond-true, cond-false, eqb-true, eq-eqb}
+use Rattle.hn_watch.proofs.Names.{NodeId, Contains-head, Contains-tail, Contains-cases, nothing_in, Shown, is_older, keeping, kept}
+use Rattle.std.proofs.Common.{fold}
+use Rattle.std.proofs.lemmas.Bool.{and_left, and_right}
 
 -- what is kept stays, or one of the node takes its place
 keeping_either : (node : NodeId) (k : Option Shown) (one : Shown) → (keeping node k one ≡ k) ⊎ ((keeping node k one ≡ Some one) × (one.node.0 ≡ node.0))

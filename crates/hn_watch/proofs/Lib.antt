@@ -1,3 +1,4 @@
+mod Names
 pub mod Orders
 pub mod ShownLemmas
 pub mod Claims

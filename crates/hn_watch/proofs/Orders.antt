@@ -1,19 +1,8 @@
 -- The orders of nodes and of their sequence numbers, what is older, and what is at a key after a value was put there.
-use Rattle.std.proofs.Common.{◌≡◌, ◌≢◌, ◌↔◌, ◌∙◌, ℕ, Bool, true, false, cond, Option, Some, IsTrue, refl, sym, ap}
-use Rattle.std.specs.Cmp.{IsTotalOrder}
-use Rattle.std.specs.declared.cmp.Ordering.{Ordering}
-use Rattle.std.specs.Ordering.{is_eq, nat_cmp}
-use Rattle.std.proofs.lemmas.Bool.{cond-true, cond-false, false_from_ne_true, false≢true, leb-true, le-leb}
-use Rattle.std.proofs.lemmas.Cmp.{on_total, then_total, nat_cmp_total, tied_itself}
-use Rattle.hn_base.specs.declared.ids.NodeId.{NodeId}
-use Rattle.hn_base.specs.NodeIds.{node_cmp}
-use Rattle.hn_base.specs.Ascending.{IsExact}
-use Rattle.hn_base.specs.Order.{IsOlder}
+use Rattle.hn_base.proofs.Names.{◌≡◌, ◌≢◌, ◌↔◌, ◌∙◌, ℕ, Bool, true, false, cond, Option, Some, IsTrue, refl, sym, ap, IsTotalOrder, is_eq, nat_cmp, cond-true, cond-false, false_from_ne_true}
+use Rattle.hn_base.proofs.Names.{false≢true, leb-true, le-leb, on_total, then_total, nat_cmp_total, tied_itself, node_cmp, IsExact, IsOlder}
+use Rattle.hn_watch.proofs.Names.{Ordering, NodeId, same_node, NodeNumber, number_cmp, is_older}
 use Rattle.hn_base.proofs.AscendingLists.{exact_nat, exact_then, equal_from_is_eq}
-use Rattle.hn_base.proofs.Keys.{same_node}
-use Rattle.hn_watch.specs.declared.claim.NodeNumber.{NodeNumber}
-use Rattle.hn_watch.specs.Claim.{number_cmp}
-use Rattle.hn_watch.specs.Seen.{is_older}
 
 pub node_total : IsTotalOrder node_cmp
 node_total = on_total (λ (n : NodeId). n.0) nat_cmp_total

@@ -1,31 +1,14 @@
 -- What is seen of the nodes: from what is remembered, and one list of it.
-use Rattle.std.proofs.Common.{◌≡◌, ◌∙◌, ◌<◌, ◌^◌, ℕ, List, [], ◌∷◌, ◌++◌, length, map, Option, Some, None, All, Contains, refl, sym, ap, subst}
-use Rattle.std.specs.List.{AllByRecursion, filter_map}
+use Rattle.hn_base.proofs.Names.{◌≡◌, ◌∙◌, ◌<◌, ◌^◌, ℕ, List, [], ◌∷◌, ◌++◌, length, map, Option, Some, None, Contains, refl, sym, ap, subst, AllByRecursion, filter_map, option_map, nat_cmp, Less}
+use Rattle.hn_base.proofs.Names.{IsOrdered, nat_cmp_total, All-head, All-tail, same_Some, map_push, node_cmp}
+use Rattle.hn_watch.proofs.Names.{All, option_to_list, NodeId, Contains-head, Contains-tail, Contains-map, Contains-from_map, same_node, Shown, Seen, Claim, NodeNumber, Remembered, number_cmp, kept}
+use Rattle.hn_watch.proofs.Names.{AreConflicts, AreSeen, Remembers, seen_of}
 use Rattle.std.specs.List.Sorted.{IsStrictlySortedBy}
-use Rattle.std.specs.Option.{option_map}
-use Rattle.std.specs.Ordering.{nat_cmp}
-use Rattle.std.specs.declared.cmp.Ordering.TheVariants.{Less}
-use Rattle.std.specs.BTreeMap.{IsOrdered}
-use Rattle.std.proofs.lemmas.Cmp.{nat_cmp_total}
-use Rattle.std.proofs.lemmas.List.Elements.{All-head, All-tail}
-use Rattle.std.proofs.lemmas.Option.{same_Some}
-use Rattle.std.proofs.lemmas.List.{map_push}
-use Rattle.std.specs.Prelude.{option_to_list}
 use Rattle.hn_base.proofs.PartsAtPlaces.{filter_map-push}
-use Rattle.hn_base.specs.declared.ids.NodeId.{NodeId}
-use Rattle.hn_base.specs.NodeIds.{node_cmp}
-use Rattle.hn_base.proofs.AscendingLists.{ascending_unique, Contains-head, Contains-tail, Contains-map, Contains-from_map}
+use Rattle.hn_base.proofs.AscendingLists.{ascending_unique}
 use Rattle.hn_base.proofs.Elements.{all_of, in_filter_map, from_filter_map}
-use Rattle.hn_base.proofs.Keys.{same_node}
-use Rattle.hn_watch.specs.declared.shown.Shown.{Shown}
-use Rattle.hn_watch.specs.declared.seen.Seen.{Seen}
-use Rattle.hn_watch.specs.declared.claim.Claim.{Claim}
-use Rattle.hn_watch.specs.declared.claim.NodeNumber.{NodeNumber}
-use Rattle.hn_watch.specs.declared.remembered.Remembered.{Remembered}
-use Rattle.hn_watch.specs.Claim.{number_cmp}
-use Rattle.hn_watch.specs.Seen.{kept, AreConflicts, IsSeen, AreSeen}
+use Rattle.hn_watch.specs.Seen.{IsSeen}
 use Rattle.hn_watch.specs.Laws.{SeenIsUnique}
-use Rattle.hn_watch.specs.Remembered.{Remembers, seen_of}
 use Rattle.hn_watch.proofs.Orders.{node_total, exact_node}
 use Rattle.hn_watch.proofs.KeptLemmas.{kept_is, kept_some}
 use Rattle.hn_watch.proofs.Conflicts.{entry_held, held_entry, are_conflicts}

@@ -1,16 +1,13 @@
 -- What TLVs show: one list, and that of a list with one more.
-use Rattle.std.proofs.Common.{◌≡◌, ◌∙◌, ℕ, ◌≤◌, ◌<◌, ◌^◌, length, take, List, [], ◌∷◌, ◌++◌, inl, inr, refl, sym, ap, subst, append_assoc, All}
-use Rattle.std.specs.Prelude.{option_to_list}
-use Rattle.std.proofs.lemmas.List.{append-nil}
-use Rattle.std.proofs.lemmas.List.Elements.{All-nil, All-cons, All-same, All-append}
+use Rattle.hn_base.proofs.Names.{◌≡◌, ◌∙◌, ℕ, ◌≤◌, ◌<◌, ◌^◌, length, take, List, [], ◌∷◌, ◌++◌, inl, inr, refl, sym, ap, subst, append_assoc, append-nil, All-nil, All-cons, All-same, All-append}
+use Rattle.hn_watch.proofs.Names.{All, option_to_list, Shown, Shows, AreShownBy}
 use Rattle.hn_tlv.specs.Grammar.{PlainTlv, IsTlv, IsTlvList}
 use Rattle.hn_tlv.specs.Laws.{ListIsUnique}
 use Rattle.hn_typed.specs.Item.{PlainItem, NodeState}
 use Rattle.hn_typed.specs.Table.{IsItem}
 use Rattle.hn_typed.specs.Laws.{ItemIsUnique, ItemHasNoFault, ItemOrFault}
-use Rattle.hn_watch.specs.declared.shown.Shown.{Shown}
 use Rattle.hn_watch.specs.Laws.{ShownIsUnique, ListsShow}
-use Rattle.hn_watch.specs.Shown.{shown_by, Shows, AreShownBy, AreShownIn}
+use Rattle.hn_watch.specs.Shown.{shown_by, AreShownIn}
 
 -- one more TLV shows what it shows, after the others
 pub shown_push : (tlvs : List PlainTlv) (shown : List Shown) (tlv : PlainTlv) (more : List Shown) → AreShownBy tlvs shown → Shows tlv more → AreShownBy (tlvs ++ tlv ∷ []) (shown ++ more)

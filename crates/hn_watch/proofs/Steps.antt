@@ -1,23 +1,11 @@
 -- What is remembered after one more is shown.
-use Rattle.std.proofs.Common.{◌≡◌, ◌≢◌, ◌∙◌, ℕ, Bool, true, false, cond, List, [], ◌∷◌, ◌++◌, Option, Some, None, map, filter, refl, sym, ap, subst, inl, inr}
-use Rattle.std.specs.Prelude.{◌==◌, ◌&&◌}
-use Rattle.std.proofs.lemmas.Bool.{cases_Bool, and_parts, and_from, eqb-true, eq-eqb, both_ways}
-use Rattle.std.proofs.lemmas.List.{append-nil, map-append}
+use Rattle.hn_base.proofs.Names.{◌≡◌, ◌≢◌, ◌∙◌, ℕ, Bool, true, false, cond, List, [], ◌∷◌, ◌++◌, Option, Some, None, map, filter, refl, sym, ap, subst, inl, inr, ◌==◌, ◌&&◌, cases_Bool, and_parts}
+use Rattle.hn_base.proofs.Names.{and_from, eqb-true, eq-eqb, both_ways, append-nil, map-append, filter-append, node_cmp, is_eq}
+use Rattle.hn_watch.proofs.Names.{NodeId, same_node, Shown, Claim, NodeNumber, Remembered, hashes_of, IsClaimOf, number_of, keeping, Remembers, RemembersSame}
 use Rattle.std.proofs.lemmas.List.Sums.{fold-append}
-use Rattle.std.proofs.lemmas.List.Elements.{filter-append}
-use Rattle.hn_base.specs.declared.ids.NodeId.{NodeId}
-use Rattle.hn_base.proofs.Keys.{same_node}
-use Rattle.hn_watch.specs.declared.shown.Shown.{Shown}
-use Rattle.hn_watch.specs.declared.claim.Claim.{Claim}
-use Rattle.hn_watch.specs.declared.claim.NodeNumber.{NodeNumber}
-use Rattle.hn_watch.specs.declared.remembered.Remembered.{Remembered}
-use Rattle.hn_watch.specs.Claim.{hashes_of, IsClaimOf, number_of}
-use Rattle.hn_watch.specs.Seen.{keeping}
-use Rattle.hn_base.specs.NodeIds.{node_cmp}
-use Rattle.std.specs.Ordering.{is_eq}
 use Rattle.hn_watch.proofs.Orders.{put_here, put_there, node_total, exact_node}
 use Rattle.hn_watch.proofs.KeptLemmas.{keeping_other}
-use Rattle.hn_watch.specs.Remembered.{claim_of, Remembers, RemembersSame, IsNoted}
+use Rattle.hn_watch.specs.Remembered.{claim_of, IsNoted}
 
 abbrev is_of : NodeId → ℕ → Shown → Bool
 is_of node number one = one.node.0 == node.0 && one.number == number

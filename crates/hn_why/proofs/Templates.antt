@@ -1,11 +1,7 @@
 -- What the templates say is what is said of the witnesses.
-use Rattle.std.proofs.Common.{◌≡◌, ◌∙◌, ℕ, List, [], ◌∷◌, ◌++◌, codes, Option, slice_get, refl, sym, ap, append_assoc}
-use Rattle.std.specs.Fmt.{decimal}
+use Rattle.hn_base.proofs.Names.{◌≡◌, ◌∙◌, ℕ, List, [], ◌∷◌, ◌++◌, codes, Option, slice_get, refl, sym, ap, append_assoc, decimal, id_text, name_text, PlainPrefix}
 use Rattle.hn_audit.specs.declared.witness.Unquiet.TheVariants as act
 use Rattle.hn_audit.specs.declared.witness.Unsettled.TheVariants as cause
-use Rattle.hn_base.specs.HexText.{id_text}
-use Rattle.hn_base.specs.Name.{name_text}
-use Rattle.hn_base.specs.Prefix.{PlainPrefix}
 use Rattle.hn_base.specs.declared.ids.EpId.{EpId}
 use Rattle.hn_base.specs.declared.ids.NodeId.{NodeId}
 use Rattle.hn_base.specs.declared.name.Name.{Name}

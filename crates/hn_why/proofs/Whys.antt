@@ -1,7 +1,6 @@
 -- Why a router is not settled or not quiet, by what two searches find.
-use Rattle.std.proofs.Common.{◌≡◌, ◌↔◌, ℕ, true, false, List, Option, None, Some, inl, inr, refl, subst}
+use Rattle.hn_base.proofs.Names.{◌≡◌, ◌↔◌, ℕ, true, false, List, Option, None, Some, inl, inr, refl, subst, option_map_or}
 use Rattle.std.specs.Prelude.{IsTrue, IfSome}
-use Rattle.std.specs.Option.{option_map_or}
 use Rattle.hn_audit.specs.FirstWitness.{IsFirstUnsettled, IsFirstUnquiet}
 use Rattle.hn_audit.specs.Quiet.{IsQuiet}
 use Rattle.hn_audit.specs.Reached.{runs}

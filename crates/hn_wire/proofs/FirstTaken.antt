@@ -1,9 +1,5 @@
 -- What was taken is the first that waits.
-use Rattle.std.proofs.Common.{◌≡◌, ◌∙◌, ◌++◌, ℕ, List, Some, length, take, get_or, refl, ap}
-use Rattle.std.specs.Prelude.{◌==◌, remove}
-use Rattle.std.proofs.lemmas.List.{take_at}
-use Rattle.std.proofs.lemmas.List.Quantifiers.{position-Some}
-use Rattle.std.proofs.lemmas.Option.{slice_get_read}
+use Rattle.hn_base.proofs.Names.{◌≡◌, ◌∙◌, ◌++◌, ℕ, List, Some, length, take, get_or, refl, ap, ◌==◌, remove, take_at, position-Some, slice_get_read}
 use Rattle.hn_wire.specs.declared.datagram.Datagram.{Datagram}
 use Rattle.hn_wire.specs.Wires.{first_at, TakesFirst}
 

@@ -1,19 +1,11 @@
 -- What an accepted event says.
-use Rattle.std.proofs.Common.{◌≡◌, ◌∙◌, ◌<◌, ℕ, Bool, true, false, [], ◌∷◌, Option, None, Some, length, nat_le, slice_get, refl, sym, ap, subst}
-use Rattle.std.specs.Prelude.{is_none, is_some, ◌&&◌, ◌||◌}
-use Rattle.std.specs.Option.{option_and_then}
-use Rattle.std.proofs.lemmas.Bool.{leb-false, or_parts}
-use Rattle.hn_base.specs.Name.{name_text}
-use Rattle.hn_base.specs.declared.name.Name.{Name}
-use Rattle.hn_world.specs.declared.copies.MailCopy.{MailCopy}
-use Rattle.hn_world.specs.declared.event.WEvent.{WEvent}
+use Rattle.hn_base.proofs.Names.{◌≡◌, ◌∙◌, ◌<◌, ℕ, Bool, true, false, [], ◌∷◌, Option, None, Some, length, slice_get, refl, sym, ap, subst, is_none, ◌&&◌, ◌||◌, option_and_then, leb-false, or_parts}
+use Rattle.hn_base.proofs.Names.{name_text}
+use Rattle.hn_world.proofs.Names.{is_some, Name, MailCopy, WEvent, Member, Parts, member_named, copy_at, refusal, named_by}
+use Rattle.std.proofs.Common.{nat_le}
 use Rattle.hn_world.specs.declared.event.WEvent.TheVariants as event
-use Rattle.hn_world.specs.declared.member.Member.{Member}
-use Rattle.hn_world.specs.declared.parts.Parts.{Parts}
-use Rattle.hn_world.specs.Names.{member_named}
 use Rattle.hn_world.specs.Refusal.{names_nothing, takes_a_name, is_stopped, lacks_the_endpoint, may_not_address, joins_twice, lacks_a_copy, goes_back, lacks_room, may_answer, is_full_of_mail}
-use Rattle.hn_world.specs.Refusal.{copy_at, acting, first_code, refusal}
-use Rattle.hn_world.specs.Routed.{named_by}
+use Rattle.hn_world.specs.Refusal.{acting, first_code}
 
 -- where no code comes, no condition holds
 none_holds : (unknown named stopped detached unlisted joined lost past full mail : Bool)

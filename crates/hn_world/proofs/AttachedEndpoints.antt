@@ -1,37 +1,21 @@
 -- The endpoints of the routers of a replayed world are those of their attachments, and no two attachments are to one link.
-use Rattle.std.proofs.Common.{◌≡◌, ◌≢◌, ◌∙◌, ◌<◌, ◌⊎◌, ◌↔◌, ℕ, Bool, true, false, not, cond, List, [], ◌∷◌, ◌++◌, Option, Some, None, Contains, length, map, filter, get_or, slice_get, nat_lt, ◌==◌}
-use Rattle.std.proofs.Common.{◌||◌, inl, inr, refl, sym, ap, subst, arith}
-use Rattle.std.specs.List.{list_any}
-use Rattle.std.specs.Option.{option_map_or}
-use Rattle.std.proofs.lemmas.Bool.{eqb-true, eqb-false, ltb-false, not-false}
-use Rattle.std.proofs.lemmas.List.{map-append}
-use Rattle.std.proofs.lemmas.List.Elements.{All-nil, All-push, All-set, Contains-append_left, Contains-append_right, Contains-append_cases, Contains-push, Contains-push_cases}
+use Rattle.hn_base.proofs.Names.{◌≡◌, ◌≢◌, ◌∙◌, ◌<◌, ◌⊎◌, ◌↔◌, ℕ, Bool, true, false, not, cond, List, [], ◌∷◌, ◌++◌, Option, Some, None, Contains, length, map, filter, get_or, slice_get, nat_lt, inl}
+use Rattle.hn_base.proofs.Names.{inr, refl, sym, ap, subst, arith, list_any, option_map_or, eqb-true, eqb-false, ltb-false, not-false, map-append, All-nil, All-push, All-set, Contains-append_left}
+use Rattle.hn_base.proofs.Names.{Contains-append_right, Contains-append_cases, Contains-push, Contains-push_cases, all_pairs_push, same_Some, name_text}
+use Rattle.hn_world.proofs.Names.{◌==◌, EpId, Name, Note, State, PlainEvent, Arrive, Tick, endpoints_of, WEvent, Traced, Version, Attachment, Member, Parts, is_named, router_place, link_place}
+use Rattle.hn_world.proofs.Names.{member_named, is_of, refusal, routed, ActsAt, DoesElse, DoesAt, attached_to, beside, stopped, Replays, AreAttached}
+use Rattle.std.proofs.Common.{◌||◌}
 use Rattle.std.proofs.lemmas.List.Kept.{AllPairs-filter}
-use Rattle.std.proofs.lemmas.List.Quantifiers.{all_pairs_push}
-use Rattle.std.proofs.lemmas.Option.{same_Some}
 use Rattle.hn_base.proofs.AscendingLists.{Contains-head, Contains-tail, Contains-cases, Contains-map, Contains-from_map}
 use Rattle.hn_base.proofs.Keys.{same_id}
-use Rattle.hn_base.specs.Name.{name_text}
-use Rattle.hn_base.specs.declared.ids.EpId.{EpId}
-use Rattle.hn_base.specs.declared.name.Name.{Name}
 use Rattle.hn_base.proofs.Elements.{in_filter, from_filter}
-use Rattle.hn_rules.specs.declared.done.Note.{Note}
-use Rattle.hn_rules.specs.declared.state.State.{State}
-use Rattle.hn_router.specs.Act.{PlainEvent, Arrive, Tick, Attach, Detach, External, Withdraw, SetCaps, Private, Addresses, Restart, is_refused}
+use Rattle.hn_router.specs.Act.{Attach, Detach, External, Withdraw, SetCaps, Private, Addresses, Restart, is_refused}
 use Rattle.hn_router.specs.Laws.{endpoints_by, EndpointsFollow}
-use Rattle.hn_own.specs.Ports.{endpoints_of, is_attached}
-use Rattle.hn_world.specs.declared.event.WEvent.{WEvent}
+use Rattle.hn_own.specs.Ports.{is_attached}
 use Rattle.hn_world.specs.declared.event.WEvent.TheVariants as event
-use Rattle.hn_world.specs.declared.event.Traced.{Traced}
-use Rattle.hn_base.specs.declared.version.Version.{Version}
-use Rattle.hn_world.specs.declared.member.Attachment.{Attachment}
-use Rattle.hn_world.specs.declared.member.Member.{Member}
-use Rattle.hn_world.specs.declared.parts.Parts.{Parts}
-use Rattle.hn_world.specs.Names.{is_named, router_place, link_place, member_named, is_of}
-use Rattle.hn_world.specs.Refusal.{so_of, refusal}
-use Rattle.hn_world.specs.Routed.{routed}
-use Rattle.hn_world.specs.Step.{ActsAt, DoesElse, DoesAt, attached_to, beside, detached_from, stopped}
-use Rattle.hn_world.specs.Replay.{Replays, IsAttachedMember, AreAttached}
+use Rattle.hn_world.specs.Refusal.{so_of}
+use Rattle.hn_world.specs.Step.{detached_from}
+use Rattle.hn_world.specs.Replay.{IsAttachedMember}
 use Rattle.hn_world.proofs.Accepted.{Accepts, accepts_at, is_there}
 use Rattle.hn_world.proofs.DoneAsPlanned.{arrival_of}
 use Rattle.hn_world.proofs.OneStep.{Any}

@@ -1,30 +1,17 @@
 -- What the routers of a replayed world hold was published, where nothing was injected; or texts that were published collide.
-use Rattle.std.proofs.Common.{◌≡◌, ◌⊎◌, ◌-◌, ℕ, true, List, [], ◌∷◌, ◌++◌, Option, Some, None, All, Contains, inl, inr, refl, sym, ap, subst}
-use Rattle.std.proofs.lemmas.List.Elements.{All-nil, All-push, All-set, All-append, All-weaker, All-contains, All-contains_itself, Contains-append_left, Contains-push}
-use Rattle.hn_base.specs.declared.ids.NodeId.{NodeId}
-use Rattle.hn_base.specs.declared.name.Name.{Name}
-use Rattle.hn_base.specs.declared.version.Version.{Version}
-use Rattle.hn_store.specs.Nodes.{Nodes, held}
-use Rattle.hn_store.specs.declared.stored.HeldNode.{HeldNode}
+use Rattle.hn_base.proofs.Names.{◌≡◌, ◌⊎◌, ◌-◌, ℕ, true, List, [], ◌∷◌, ◌++◌, Option, Some, None, Contains, inl, inr, refl, sym, ap, subst, All-nil, All-push, All-set, All-append, All-weaker}
+use Rattle.hn_base.proofs.Names.{All-contains, All-contains_itself, Contains-append_left, Contains-push}
+use Rattle.hn_world.proofs.Names.{All, NodeId, Name, Version, Nodes, HeldNode, Note, Publication, State, TextsCollide, BytesSayPublished, PlainEvent, Arrive, IsEventInRange, MailCopy, WEvent, Traced}
+use Rattle.hn_world.proofs.Names.{Member, Parts, AuthenticUnlessInjected, copies_of, Replays, IsSoundMember, IsSoundWorld, routed, ActsAt, RouterBegins, Stops, DoesAt, DoesElse, FitsAt, acted, beside}
+use Rattle.hn_world.proofs.Names.{stopped, taken}
+use Rattle.hn_store.specs.Nodes.{held}
 use Rattle.hn_store.specs.declared.stored.Stored.{Stored}
-use Rattle.hn_rules.specs.declared.done.Note.{Note}
-use Rattle.hn_rules.specs.declared.done.Publication.{Publication}
-use Rattle.hn_rules.specs.declared.state.State.{State}
-use Rattle.hn_rules.specs.Genuine.{TextsCollide, IsGenuine, BytesSayPublished}
+use Rattle.hn_rules.specs.Genuine.{IsGenuine}
 use Rattle.hn_world.proofs.MorePublished.{Includes, includes_front, collide_more, was_more, holds_more, bytes_more}
-use Rattle.hn_router.specs.Act.{PlainEvent, Arrive, IsEventInRange}
 use Rattle.hn_router.specs.Laws.{IsTrusted, GenuineStays}
-use Rattle.hn_world.specs.declared.copies.MailCopy.{MailCopy}
-use Rattle.hn_world.specs.declared.event.WEvent.{WEvent}
 use Rattle.hn_world.specs.declared.event.WEvent.TheVariants as event
-use Rattle.hn_world.specs.declared.event.Traced.{Traced}
-use Rattle.hn_world.specs.declared.member.Member.{Member}
-use Rattle.hn_world.specs.declared.parts.Parts.{Parts}
-use Rattle.hn_world.specs.Authentic.{IsFromWithin, IsAuthentic, AuthenticUnlessInjected}
-use Rattle.hn_world.specs.Mail.{copies_of}
-use Rattle.hn_world.specs.Replay.{Replays, IsSoundMember, IsSoundWorld}
-use Rattle.hn_world.specs.Routed.{routed}
-use Rattle.hn_world.specs.Step.{ActsAt, RouterBegins, Delivers, Drops, Stops, DoesAt, DoesElse, FitsAt, acted, beside, stopped, taken}
+use Rattle.hn_world.specs.Authentic.{IsFromWithin, IsAuthentic}
+use Rattle.hn_world.specs.Step.{Delivers, Drops}
 use Rattle.hn_world.proofs.CopiesAsSent.{copied, still_copied}
 use Rattle.hn_world.proofs.OneStep.{Any, trace_of_step}
 use Rattle.hn_world.proofs.SoundRouters.{StayLaws, KeepsRouters, beside_keeps, sound_step, replay_keeps, all_at}

@@ -1,14 +1,6 @@
 -- What holds of the bytes of what is sent holds of the bytes of its copies.
-use Rattle.std.proofs.Common.{◌-◌, ℕ, false, List, [], ◌∷◌, Option, Some, None, All, filter}
-use Rattle.std.proofs.lemmas.List.Elements.{All-nil, All-append, All-head, All-tail, All-map, All-set}
-use Rattle.hn_rules.specs.declared.done.Outgoing.{Outgoing}
-use Rattle.hn_world.specs.declared.copies.MailCopy.{MailCopy}
-use Rattle.hn_world.specs.declared.copies.Target.{Target}
-use Rattle.hn_world.specs.declared.member.Member.{Member}
-use Rattle.hn_world.specs.declared.parts.Parts.{Parts}
-use Rattle.hn_world.specs.Mail.{copies_of, copies_of_send, copies_on, copy_for, gets, on_link}
-use Rattle.hn_world.specs.Names.{link_of}
-use Rattle.hn_world.specs.Step.{taken}
+use Rattle.hn_base.proofs.Names.{◌-◌, ℕ, false, List, [], ◌∷◌, Option, Some, None, filter, All-nil, All-append, All-head, All-tail, All-map, All-set}
+use Rattle.hn_world.proofs.Names.{All, Outgoing, MailCopy, Target, Member, Parts, copies_of, copies_of_send, copies_on, copy_for, gets, on_link, link_of, taken}
 
 module _ (P : List ℕ → Type 0) where
   abbrev pub Copied : MailCopy → Type 0

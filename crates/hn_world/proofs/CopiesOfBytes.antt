@@ -1,24 +1,11 @@
 -- The copies of a replayed world are of bytes, so that a delivery has a result.
-use Rattle.std.proofs.Common.{◌-◌, ℕ, List, Option, None, Some, All, sym, subst}
-use Rattle.std.proofs.lemmas.List.Elements.{All-nil, All-append}
-use Rattle.hn_base.specs.Byte.{IsByte}
-use Rattle.hn_base.specs.declared.name.Name.{Name}
-use Rattle.hn_base.specs.declared.version.Version.{Version}
-use Rattle.hn_router.specs.Act.{PlainEvent, Arrive, IsEventInRange}
+use Rattle.hn_base.proofs.Names.{◌-◌, ℕ, List, Option, None, Some, sym, subst, All-nil, All-append, IsByte}
+use Rattle.hn_world.proofs.Names.{All, Name, Version, PlainEvent, Arrive, IsEventInRange, Note, Origin, Traced, WEvent, Member, Parts, StepExists, WorldIsSound, copies_of, IsReplayed, Replays}
+use Rattle.hn_world.proofs.Names.{IsSoundMember, IsSoundWorld, routed, ActsAt, DoesAt, DoesElse, FitsAt, beside}
 use Rattle.hn_router.specs.Laws.{SendsAreBytes}
-use Rattle.hn_rules.specs.declared.done.Note.{Note}
-use Rattle.hn_rules.specs.declared.running.Origin.{Origin}
-use Rattle.hn_world.specs.declared.event.Traced.{Traced}
-use Rattle.hn_world.specs.declared.event.WEvent.{WEvent}
 use Rattle.hn_world.specs.declared.event.WEvent.TheVariants as event
-use Rattle.hn_world.specs.declared.member.Member.{Member}
-use Rattle.hn_world.specs.declared.parts.Parts.{Parts}
-use Rattle.hn_world.specs.Existing.{IsMailOfBytes, StepExists, ReplayedStepExists}
-use Rattle.hn_world.specs.Laws.{CopiesAreBytes, WorldIsSound}
-use Rattle.hn_world.specs.Mail.{copies_of}
-use Rattle.hn_world.specs.Replay.{IsReplayed, Replays, IsSoundMember, IsSoundWorld}
-use Rattle.hn_world.specs.Routed.{routed}
-use Rattle.hn_world.specs.Step.{ActsAt, DoesAt, DoesElse, FitsAt, beside}
+use Rattle.hn_world.specs.Existing.{IsMailOfBytes, ReplayedStepExists}
+use Rattle.hn_world.specs.Laws.{CopiesAreBytes}
 use Rattle.hn_world.proofs.DoneAsPlanned.{copy_there}
 use Rattle.hn_world.proofs.CopiesAsSent.{Copied, copied, still_copied}
 use Rattle.hn_world.proofs.OneStep.{Any}

@@ -1,43 +1,19 @@
 -- What was planned, and then done, is the event.
-use Rattle.std.specs.Option.{option_map}
+use Rattle.hn_base.proofs.Names.{option_map, ◌≡◌, ◌∙◌, ℕ, ◌^◌, ◌<◌, ◌≤◌, ◌-◌, Bool, true, false, cond, List, [], ◌∷◌, ◌++◌, length, get_or, Option, Some, None, slice_get, slice_set, refl, sym, subst}
+use Rattle.hn_base.proofs.Names.{ap, arith, append-nil, slice_get_within, slice_get-get_or, common_steps, name_text, Drew}
+use Rattle.hn_world.proofs.Names.{◌==◌, none_passes, NodeId, Name, PlainEvent, Arrive, Tick, IsEventInRange, Happened, nothing, after_passing, at_moment, Note, Publication, State, MailCopy, WEvent}
+use Rattle.hn_world.proofs.Names.{Traced, Member, Parts, table_limit, is_named, router_place, member_named, IsPlanned, refusal, copy_at, IsSoundWorld, IsSoundMember, routed, named_by, place_by}
+use Rattle.hn_world.proofs.Names.{ActsAt, Acts, DoesAt, Step, IsStep, IsWorldEventInRange, FitsAt, acted, beside, entered, with_member, stopped, taken}
 use Rattle.std.specs.Prelude.{IfSome}
-use Rattle.std.proofs.Common.{◌≡◌, ◌∙◌, ℕ, ◌^◌, ◌<◌, ◌≤◌, ◌-◌, ◌==◌, Bool, true, false, cond, List, [], ◌∷◌, ◌++◌, length, get_or, Option, Some, None, slice_get, slice_set, refl, sym, subst, ap}
-use Rattle.std.proofs.Common.{arith}
-use Rattle.std.proofs.lemmas.List.{append-nil}
-use Rattle.std.proofs.lemmas.Option.{slice_get_within, slice_get-get_or}
-use Rattle.std.proofs.lemmas.Grind.{common_steps}
 use Rattle.hn_base.proofs.FrontOfList.{find-none}
-use Rattle.hn_base.proofs.PassingElements.{none_passes}
-use Rattle.hn_base.specs.Name.{name_text}
-use Rattle.hn_base.specs.declared.ids.NodeId.{NodeId}
-use Rattle.hn_base.specs.declared.name.Name.{Name}
-use Rattle.hn_base.specs.Words.{Drew}
-use Rattle.hn_router.specs.Act.{PlainEvent, Arrive, Tick, IsEventInRange, Happened}
-use Rattle.hn_rules.specs.Done.{nothing}
-use Rattle.hn_rules.specs.Passing.{after_passing}
 use Rattle.hn_rules.specs.declared.arrival.passing.Passing.{Passing}
-use Rattle.hn_rules.specs.Still.{at_moment}
 use Rattle.hn_router.specs.New.{IsNew}
 use Rattle.hn_router.specs.Plan.{PlainPlan}
-use Rattle.hn_rules.specs.declared.done.Note.{Note}
-use Rattle.hn_rules.specs.declared.done.Publication.{Publication}
-use Rattle.hn_rules.specs.declared.state.State.{State}
-use Rattle.hn_world.specs.declared.copies.MailCopy.{MailCopy}
-use Rattle.hn_world.specs.declared.event.WEvent.{WEvent}
 use Rattle.hn_world.specs.declared.event.WEvent.TheVariants as event
-use Rattle.hn_world.specs.declared.event.Traced.{Traced}
-use Rattle.hn_world.specs.declared.member.Member.{Member}
-use Rattle.hn_world.specs.declared.parts.Parts.{Parts}
-use Rattle.hn_world.specs.Limits.{table_limit}
-use Rattle.hn_world.specs.Names.{is_named, router_place, member_named}
-use Rattle.hn_world.specs.Planned.{IsPlanned, LetsCopyPass}
-use Rattle.hn_world.specs.Refusal.{refusal, copy_at}
-use Rattle.hn_world.specs.Replay.{IsSoundWorld, IsSoundMember}
+use Rattle.hn_world.specs.Planned.{LetsCopyPass}
 use Rattle.hn_world.proofs.Accepted.{accepts, is_there, receiver_found}
 use Rattle.hn_world.proofs.ElementAtPlace.{got_front, within, found_at}
 use Rattle.hn_world.proofs.SoundRouters.{all_at}
-use Rattle.hn_world.specs.Routed.{routed, named_by, place_by}
-use Rattle.hn_world.specs.Step.{ActsAt, Acts, DoesAt, Step, IsStep, IsWorldEventInRange, FitsAt, acted, beside, entered, with_member, stopped, taken}
 
 -- the name in a route
 abbrev name_in : Option (Name × PlainEvent) → Option Name

@@ -1,13 +1,8 @@
 -- Elements at their places.
-use Rattle.std.proofs.Common.{◌≡◌, ◌∙◌, ◌<◌, ℕ, zero, suc, Bool, true, false, List, [], ◌∷◌, ◌++◌, cond, length, get_or, map, filter, take, ◌+◌, Option, Some, None, find, position, slice_get}
-use Rattle.std.proofs.Common.{slice_set, nat_lt, refl, sym, subst, ap}
-use Rattle.std.specs.List.{position_or_len}
-use Rattle.std.proofs.lemmas.List.Folds.{find_at}
-use Rattle.std.proofs.lemmas.List.{append-nil, length-set, map-append}
-use Rattle.std.proofs.lemmas.List.Elements.{filter_more}
+use Rattle.hn_base.proofs.Names.{◌≡◌, ◌∙◌, ◌<◌, ℕ, zero, suc, Bool, true, false, List, [], ◌∷◌, ◌++◌, cond, length, get_or, map, filter, take, ◌+◌, Option, Some, None, position, slice_get, slice_set}
+use Rattle.hn_base.proofs.Names.{nat_lt, refl, sym, subst, ap, position_or_len, find_at, append-nil, length-set, map-append, filter_more, position-Some, get_or_from_slice_get, slice_get_read}
+use Rattle.hn_world.proofs.Names.{find}
 use Rattle.std.proofs.lemmas.List.Folds.{position_or_len-set}
-use Rattle.std.proofs.lemmas.List.Quantifiers.{position-Some}
-use Rattle.std.proofs.lemmas.Option.{get_or_from_slice_get, slice_get_read}
 
 -- an element that was read, where the list was opened
 pub read_at : {A : Type 0} (opened xs : List A) (i : ℕ) (x : A) → opened ≡ xs → i < length xs → x ≡ get_or opened i x → slice_get xs i ≡ Some x

@@ -1,19 +1,11 @@
 -- The endpoint that has an address is of one router.
-use Rattle.std.proofs.Common.{◌≡◌, ◌≢◌, ◌<◌, ◌≤◌, ◌+◌, ◌^◌, ◌∙◌, ◌⊎◌, ℕ, zero, suc, Bool, true, false, cond, Option, None, Some, sym, List, [], ◌∷◌, ◌++◌, All, length, map, filter, get_or, inl, inr}
-use Rattle.std.proofs.Common.{refl, ap, arith}
+use Rattle.hn_base.proofs.Names.{◌≡◌, ◌≢◌, ◌<◌, ◌≤◌, ◌+◌, ◌^◌, ◌∙◌, ◌⊎◌, ℕ, zero, suc, Bool, true, false, cond, Option, None, Some, sym, List, [], ◌∷◌, ◌++◌, length, map, filter, get_or, inl, inr}
+use Rattle.hn_base.proofs.Names.{refl, ap, arith, cond_both, none-some, same_Some, append-nil, All-head, All-tail, filter-append}
+use Rattle.hn_world.proofs.Names.{All, EpId, Port, Target, Member, gets, on_link_at, on_link, is_on}
 use Rattle.std.specs.Prelude.{IsTrue}
-use Rattle.std.proofs.lemmas.Bool.{cond_both}
-use Rattle.std.proofs.lemmas.Option.{none-some, same_Some}
-use Rattle.std.proofs.lemmas.List.{append-nil}
-use Rattle.std.proofs.lemmas.List.Elements.{All-head, All-tail, filter-append}
 use Rattle.hn_base.specs.declared.addr.Addr.{Addr}
-use Rattle.hn_base.specs.declared.ids.EpId.{EpId}
-use Rattle.hn_dncp.specs.declared.port.Port.{Port}
 use Rattle.hn_own.specs.Ports.{ArePorts}
-use Rattle.hn_world.specs.declared.copies.Target.{Target}
-use Rattle.hn_world.specs.declared.member.Member.{Member}
-use Rattle.hn_world.specs.Mail.{gets, has_address, on_link_at, on_link}
-use Rattle.hn_world.specs.Names.{is_on}
+use Rattle.hn_world.specs.Mail.{has_address}
 
 abbrev HasPorts : Member → Type 0
 HasPorts m = ArePorts m.router.ports

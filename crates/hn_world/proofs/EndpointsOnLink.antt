@@ -1,21 +1,7 @@
 -- The endpoints that are attached to a link.
-use Rattle.std.proofs.Common.{◌≡◌, ℕ, zero, suc, ◌+◌, ◌<◌, Bool, true, false, cond, List, [], ◌∷◌, ◌++◌, length, get_or, take, map, filter, find, Option, Some, refl, sym, ◌∙◌, ap, arith, add-one}
-use Rattle.std.proofs.Common.{append_assoc}
-use Rattle.std.specs.Prelude.{◌==◌}
-use Rattle.std.specs.List.{list_any}
-use Rattle.std.specs.Option.{option_map, option_map_or}
-use Rattle.std.proofs.lemmas.Bool.{cond_both, or_parts}
-use Rattle.std.proofs.lemmas.List.{append-nil, map-append, take_more}
-use Rattle.std.proofs.lemmas.List.Elements.{filter-append}
-use Rattle.hn_base.specs.declared.ids.EpId.{EpId}
-use Rattle.hn_dncp.specs.declared.port.Port.{Port}
-use Rattle.hn_own.specs.Ports.{endpoints_of}
-use Rattle.hn_world.specs.declared.copies.MailCopy.{MailCopy}
-use Rattle.hn_world.specs.declared.copies.Target.{Target}
-use Rattle.hn_world.specs.declared.member.Attachment.{Attachment}
-use Rattle.hn_world.specs.Names.{is_of, is_on}
-use Rattle.hn_world.specs.declared.member.Member.{Member}
-use Rattle.hn_world.specs.Mail.{on_link_at, on_link}
+use Rattle.hn_base.proofs.Names.{◌≡◌, ℕ, zero, suc, ◌+◌, ◌<◌, Bool, true, false, cond, List, [], ◌∷◌, ◌++◌, length, get_or, take, map, filter, Option, Some, refl, sym, ◌∙◌, ap, arith, add-one}
+use Rattle.hn_base.proofs.Names.{append_assoc, ◌==◌, list_any, option_map, option_map_or, cond_both, or_parts, append-nil, map-append, take_more, filter-append}
+use Rattle.hn_world.proofs.Names.{find, EpId, Port, endpoints_of, MailCopy, Target, Attachment, is_of, is_on, Member, on_link_at, on_link}
 
 -- with one router more, the first of which has this place
 one_more : (link place i : ℕ) (xs : List Member) (d : Member) → i < length xs → on_link link place (take (suc i) xs) ≡ on_link link place (take i xs) ++ on_link_at link (place + i) (get_or xs i d)

@@ -1,14 +1,6 @@
 -- Routers of a replayed world with equal network state hashes.
-use Rattle.std.proofs.Common.{◌∙◌, List, sym}
-use Rattle.std.proofs.lemmas.List.Elements.{All-contains}
-use Rattle.hn_hash.specs.Agreement.{EqualHashesAgreeOrCollide}
-use Rattle.hn_rules.specs.Laws.{HashIsOfLeaves}
-use Rattle.hn_rules.specs.Nodes.{leaves_of}
-use Rattle.hn_world.specs.declared.event.Traced.{Traced}
-use Rattle.hn_base.specs.declared.version.Version.{Version}
-use Rattle.hn_world.specs.declared.parts.Parts.{Parts}
-use Rattle.hn_world.specs.Leaves.{EqualHashesAgree}
-use Rattle.hn_world.specs.Replay.{Replays, IsSoundMember, IsSoundWorld}
+use Rattle.hn_base.proofs.Names.{◌∙◌, List, sym, All-contains}
+use Rattle.hn_world.proofs.Names.{EqualHashesAgreeOrCollide, HashIsOfLeaves, leaves_of, Traced, Version, Parts, EqualHashesAgree, Replays, IsSoundMember, IsSoundWorld}
 use Rattle.hn_world.proofs.SoundRouters.{StayLaws, sound_replay}
 
 agree : HashIsOfLeaves → EqualHashesAgreeOrCollide → (w : Parts) → IsSoundWorld w → EqualHashesAgree w

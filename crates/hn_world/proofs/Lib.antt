@@ -1,3 +1,4 @@
+mod Names
 mod Accepted
 pub mod DoneAsPlanned
 pub mod EqualHashes

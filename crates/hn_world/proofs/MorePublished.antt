@@ -1,10 +1,8 @@
 -- What was published stays so when more is published.
-use Rattle.std.proofs.Common.{ℕ, List, ◌++◌, inl, inr}
+use Rattle.hn_base.proofs.Names.{ℕ, List, ◌++◌, inl, inr, Contains-append_left}
+use Rattle.hn_world.proofs.Names.{Publication, State, TextsCollide, BytesSayPublished}
 use Rattle.std.specs.Prelude.{Contains}
-use Rattle.std.proofs.lemmas.List.Elements.{Contains-append_left}
-use Rattle.hn_rules.specs.declared.done.Publication.{Publication}
-use Rattle.hn_rules.specs.declared.state.State.{State}
-use Rattle.hn_rules.specs.Genuine.{IsText, TextsCollide, WasPublished, HoldsPublished, BytesSayPublished}
+use Rattle.hn_rules.specs.Genuine.{IsText, WasPublished, HoldsPublished}
 
 abbrev pub Includes : List Publication → List Publication → Type 0
 Includes some all = (p : Publication) → Contains some p → Contains all p

@@ -1,13 +1,8 @@
 -- Two lists of leaves agree in one way.
-use Rattle.std.proofs.Common.{◌≡◌, ◌≢◌, ◌∙◌, ℕ, List, inl, inr, refl, sym, ap}
-use Rattle.std.proofs.lemmas.Bool.{cases_order}
-use Rattle.hn_hash.specs.Agreement.{body_at, IsFirstDifference, IsCollisionShown, IsExhibited}
-use Rattle.hn_hash.specs.Hash.{hash_of}
-use Rattle.hn_hash.specs.Network.{leaf_text, network_hash}
+use Rattle.hn_base.proofs.Names.{◌≡◌, ◌≢◌, ◌∙◌, ℕ, List, inl, inr, refl, sym, ap, cases_order}
+use Rattle.hn_world.proofs.Names.{body_at, hash_of, leaf_text, network_hash, Differ, Same, Collide, Leaf, Agrees}
+use Rattle.hn_hash.specs.Agreement.{IsFirstDifference, IsCollisionShown, IsExhibited}
 use Rattle.hn_hash.specs.declared.agreement.Agreement.{Agreement}
-use Rattle.hn_hash.specs.declared.agreement.Agreement.TheVariants.{Differ, Same, Collide}
-use Rattle.hn_hash.specs.declared.leaf.Leaf.{Leaf}
-use Rattle.hn_world.specs.Leaves.{Agrees}
 
 -- leaves that show a collision have one network hash, and they differ
 one_hash : (a b : List Leaf) (left right : List ℕ) → IsExhibited a b left right → network_hash a ≡ network_hash b

@@ -1,11 +1,7 @@
 -- One more event of a world that is the replay of its trace.
-use Rattle.std.proofs.Common.{List, [], ◌∷◌, ◌++◌, refl, sym, subst}
-use Rattle.hn_rules.specs.declared.done.Note.{Note}
-use Rattle.hn_world.specs.declared.event.Traced.{Traced}
-use Rattle.hn_base.specs.declared.version.Version.{Version}
-use Rattle.hn_world.specs.declared.parts.Parts.{Parts}
-use Rattle.hn_world.specs.Step.{Step}
-use Rattle.hn_world.specs.Replay.{empty_world, Goes, Replays, IsReplayed, Throughout, Stepped}
+use Rattle.hn_base.proofs.Names.{List, [], ◌∷◌, ◌++◌, refl, sym, subst}
+use Rattle.hn_world.proofs.Names.{Note, Traced, Version, Parts, Step, empty_world, Goes, IsReplayed}
+use Rattle.hn_world.specs.Replay.{Replays, Throughout, Stepped}
 use Rattle.hn_world.proofs.OneStep.{Any, past_of_step}
 
 goes_more : (before between after : Parts) (ts : List Traced) (t : Traced) → Goes before ts between → Any t between after → Goes before (ts ++ t ∷ []) after

@@ -1,26 +1,13 @@
 -- An event over one stream of words has at most one result, and a trace leads to at most one world.
-use Rattle.std.proofs.Common.{◌≡◌, ◌∙◌, ◌+◌, ℕ, true, List, [], ◌∷◌, ◌++◌, length, Option, Some, None, refl, sym, subst, ap, append_assoc, zero-add, slice_index, slice_get, arith}
-use Rattle.std.proofs.lemmas.List.{append-nil}
-use Rattle.std.proofs.lemmas.Option.{same_Some}
-use Rattle.hn_base.specs.declared.ids.NodeId.{NodeId}
-use Rattle.hn_base.specs.declared.name.Name.{Name}
+use Rattle.hn_base.proofs.Names.{◌≡◌, ◌∙◌, ◌+◌, ℕ, true, List, [], ◌∷◌, ◌++◌, length, Option, Some, None, refl, sym, subst, ap, append_assoc, zero-add, slice_index, slice_get, arith, append-nil}
+use Rattle.hn_base.proofs.Names.{same_Some}
+use Rattle.hn_world.proofs.Names.{NodeId, Name, Done, Note, State, PlainEvent, Happened, MailCopy, WEvent, Traced, Version, Member, Parts, table_limit, routed, ActsAt, Acts, RouterBegins, Stops}
+use Rattle.hn_world.proofs.Names.{DoesElse, DoesAt, Step, IsStep, acted, beside, entered, with_member, stopped, taken, empty_world, Goes}
 use Rattle.hn_base.specs.Words as drawn
-use Rattle.hn_rules.specs.declared.done.Done.{Done}
-use Rattle.hn_rules.specs.declared.done.Note.{Note}
-use Rattle.hn_rules.specs.declared.state.State.{State}
-use Rattle.hn_router.specs.Act.{PlainEvent, Happened}
 use Rattle.hn_router.specs.Laws.{OneResult, NewIsUnique}
-use Rattle.hn_world.specs.declared.copies.MailCopy.{MailCopy}
-use Rattle.hn_world.specs.declared.event.WEvent.{WEvent}
 use Rattle.hn_world.specs.declared.event.WEvent.TheVariants as event
-use Rattle.hn_world.specs.declared.event.Traced.{Traced}
-use Rattle.hn_base.specs.declared.version.Version.{Version}
-use Rattle.hn_world.specs.declared.member.Member.{Member}
-use Rattle.hn_world.specs.declared.parts.Parts.{Parts}
-use Rattle.hn_world.specs.Limits.{table_limit}
-use Rattle.hn_world.specs.Routed.{routed}
-use Rattle.hn_world.specs.Step.{ActsAt, Acts, RouterBegins, Quietly, Stops, DoesElse, DoesAt, Step, IsStep, acted, beside, entered, with_member, stopped, taken}
-use Rattle.hn_world.specs.Replay.{empty_world, Goes, Replays}
+use Rattle.hn_world.specs.Step.{Quietly}
+use Rattle.hn_world.specs.Replay.{Replays}
 
 -- an event, whatever was noted
 abbrev pub Any : Traced → Parts → Parts → Type 0

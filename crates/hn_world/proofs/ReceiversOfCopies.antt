@@ -1,26 +1,10 @@
 -- Each copy goes to a router that is there.
-use Rattle.std.proofs.Common.{◌≡◌, ◌<◌, ◌≤◌, ◌+◌, ◌-◌, ◌∙◌, ℕ, suc, true, false, List, [], ◌∷◌, ◌++◌, Option, Some, None, All, length, filter, slice_set, sym, subst, ap, arith}
-use Rattle.std.proofs.lemmas.List.{length-set, length-append}
-use Rattle.std.proofs.lemmas.List.Elements.{All-nil, All-append, All-map, All-set, All-weaker, All-filter}
-use Rattle.hn_base.specs.declared.ids.EpId.{EpId}
-use Rattle.hn_base.specs.declared.name.Name.{Name}
-use Rattle.hn_own.specs.Ports.{endpoints_of}
-use Rattle.hn_router.specs.Act.{PlainEvent, Arrive}
-use Rattle.hn_rules.specs.declared.done.Note.{Note}
-use Rattle.hn_rules.specs.declared.done.Outgoing.{Outgoing}
-use Rattle.hn_world.specs.declared.copies.MailCopy.{MailCopy}
-use Rattle.hn_world.specs.declared.copies.Target.{Target}
-use Rattle.hn_world.specs.declared.event.WEvent.{WEvent}
+use Rattle.hn_base.proofs.Names.{◌≡◌, ◌<◌, ◌≤◌, ◌+◌, ◌-◌, ◌∙◌, ℕ, suc, true, false, List, [], ◌∷◌, ◌++◌, Option, Some, None, length, filter, slice_set, sym, subst, ap, arith, length-set, All-nil}
+use Rattle.hn_base.proofs.Names.{All-append, All-map, All-set, All-weaker, All-filter}
+use Rattle.hn_world.proofs.Names.{All, EpId, Name, endpoints_of, PlainEvent, Arrive, Note, Outgoing, MailCopy, Target, WEvent, Traced, Member, Parts, copies_of, copies_of_send, copies_on, copy_for}
+use Rattle.hn_world.proofs.Names.{gets, on_link_at, on_link, is_on, link_of, copy_at, IsReplayed, routed, ActsAt, DoesElse, DoesAt, beside, stopped, taken}
+use Rattle.std.proofs.lemmas.List.{length-append}
 use Rattle.hn_world.specs.declared.event.WEvent.TheVariants as event
-use Rattle.hn_world.specs.declared.event.Traced.{Traced}
-use Rattle.hn_world.specs.declared.member.Member.{Member}
-use Rattle.hn_world.specs.declared.parts.Parts.{Parts}
-use Rattle.hn_world.specs.Mail.{copies_of, copies_of_send, copies_on, copy_for, gets, on_link_at, on_link}
-use Rattle.hn_world.specs.Names.{is_on, link_of}
-use Rattle.hn_world.specs.Refusal.{copy_at}
-use Rattle.hn_world.specs.Replay.{IsReplayed}
-use Rattle.hn_world.specs.Routed.{routed}
-use Rattle.hn_world.specs.Step.{ActsAt, DoesElse, DoesAt, beside, stopped, taken}
 use Rattle.hn_world.proofs.DoneAsPlanned.{copy_there}
 use Rattle.hn_world.proofs.OneStep.{Any}
 use Rattle.hn_world.proofs.SoundRouters.{all_at, replay_keeps}

@@ -1,34 +1,11 @@
 -- The routers of a replayed world have names of their own, and each is found by its name.
-use Rattle.std.proofs.Common.{◌≡◌, ◌≢◌, ◌∙◌, ◌<◌, ℕ, zero, suc, true, false, cond, List, [], ◌∷◌, ◌++◌, length, Option, Some, None, get_or, slice_get, slice_set, position, nat_lt, refl, sym, ap}
-use Rattle.std.proofs.Common.{subst, arith}
-use Rattle.std.specs.Prelude.{is_some}
-use Rattle.std.specs.List.{position_or_len}
-use Rattle.std.specs.Option.{option_map_or}
-use Rattle.std.specs.Str.{bytes_eq}
-use Rattle.std.proofs.lemmas.Bool.{or_parts}
-use Rattle.std.proofs.lemmas.Bool.Decides.{not_from_Decides}
-use Rattle.std.proofs.lemmas.List.{length-set}
-use Rattle.std.proofs.lemmas.List.Quantifiers.{all_pairs_push}
-use Rattle.std.proofs.lemmas.List.Sums.{position_or_len_is}
-use Rattle.std.proofs.lemmas.Option.{same_Some, slice_get_within, get_or_from_slice_get}
-use Rattle.std.proofs.lemmas.Slice.Eq.{bytes_eq-Decides}
-use Rattle.hn_base.proofs.PassingElements.{none_passes}
-use Rattle.hn_base.specs.Name.{name_text}
-use Rattle.hn_base.specs.declared.ids.NodeId.{NodeId}
-use Rattle.hn_base.specs.declared.name.Name.{Name}
-use Rattle.hn_base.specs.declared.version.Version.{Version}
-use Rattle.hn_rules.specs.declared.done.Note.{Note}
-use Rattle.hn_router.specs.Act.{PlainEvent}
-use Rattle.hn_world.specs.declared.event.WEvent.{WEvent}
+use Rattle.hn_base.proofs.Names.{◌≡◌, ◌≢◌, ◌∙◌, ◌<◌, ℕ, zero, suc, true, false, cond, List, [], ◌∷◌, ◌++◌, length, Option, Some, None, get_or, slice_get, slice_set, position, nat_lt, refl, sym, ap}
+use Rattle.hn_base.proofs.Names.{subst, arith, position_or_len, option_map_or, bytes_eq, or_parts, not_from_Decides, length-set, all_pairs_push, position_or_len_is, same_Some, slice_get_within}
+use Rattle.hn_base.proofs.Names.{get_or_from_slice_get, bytes_eq-Decides, name_text}
+use Rattle.hn_world.proofs.Names.{is_some, none_passes, NodeId, Name, Version, Note, PlainEvent, WEvent, Traced, Member, Parts, is_named, router_place, link_place, refusal, Replays, routed, ActsAt}
+use Rattle.hn_world.proofs.Names.{DoesElse, DoesAt, attached_to, beside, stopped}
 use Rattle.hn_world.specs.declared.event.WEvent.TheVariants as event
-use Rattle.hn_world.specs.declared.event.Traced.{Traced}
-use Rattle.hn_world.specs.declared.member.Member.{Member}
-use Rattle.hn_world.specs.declared.parts.Parts.{Parts}
-use Rattle.hn_world.specs.Names.{is_named, router_place, link_place, NamesDiffer}
-use Rattle.hn_world.specs.Refusal.{refusal}
-use Rattle.hn_world.specs.Replay.{Replays}
-use Rattle.hn_world.specs.Routed.{routed}
-use Rattle.hn_world.specs.Step.{ActsAt, DoesElse, DoesAt, attached_to, beside, stopped}
+use Rattle.hn_world.specs.Names.{NamesDiffer}
 use Rattle.hn_world.proofs.Accepted.{accepts}
 use Rattle.hn_world.proofs.DoneAsPlanned.{arrival_of}
 use Rattle.hn_world.proofs.OneStep.{Any}

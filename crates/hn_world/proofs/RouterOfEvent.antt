@@ -1,17 +1,7 @@
 -- The router of an event, by the place of the router that the event names.
-use Rattle.std.proofs.Common.{◌≡◌, ◌∙◌, ℕ, Bool, true, false, cond, List, Option, Some, None, find, length, nat_lt, position, slice_get, refl, sym, ap}
-use Rattle.std.specs.List.{position_or_len}
-use Rattle.std.specs.Option.{option_and_then}
-use Rattle.std.proofs.lemmas.Bool.{ltb-false}
-use Rattle.std.proofs.lemmas.List.Folds.{find_at}
-use Rattle.std.proofs.lemmas.Option.{slice_get_past}
-use Rattle.hn_base.specs.Name.{name_text}
-use Rattle.hn_base.specs.declared.name.Name.{Name}
-use Rattle.hn_world.specs.declared.event.WEvent.{WEvent}
-use Rattle.hn_world.specs.declared.parts.Parts.{Parts}
-use Rattle.hn_world.specs.Names.{is_named, member_named}
-use Rattle.hn_world.specs.Refusal.{named_member, refusal}
-use Rattle.hn_world.specs.Routed.{named_by, place_by}
+use Rattle.hn_base.proofs.Names.{◌≡◌, ◌∙◌, ℕ, Bool, true, false, cond, List, Option, Some, None, length, nat_lt, position, slice_get, refl, sym, ap, position_or_len, option_and_then, ltb-false}
+use Rattle.hn_base.proofs.Names.{find_at, slice_get_past, name_text}
+use Rattle.hn_world.proofs.Names.{find, Name, WEvent, Parts, is_named, member_named, named_member, refusal, named_by, place_by}
 use Rattle.hn_world.proofs.Accepted.{router_found}
 use Rattle.hn_world.proofs.DoneAsPlanned.{named_nowhere}
 

@@ -1,10 +1,6 @@
 -- Names whose bytes are compared from the last one on.
-use Rattle.std.proofs.Common.{◌≡◌, ◌≢◌, ◌∙◌, ℕ, ◌<◌, ◌≤◌, false, List, length, get_or, take, sym, ap, inl, inr, arith}
-use Rattle.std.specs.Str.{bytes_eq}
-use Rattle.std.proofs.lemmas.Bool.{cases_Bool}
-use Rattle.std.proofs.lemmas.Grind.{same_number_lists}
-use Rattle.std.proofs.lemmas.List.{length-take-le, get_or-take}
-use Rattle.std.proofs.lemmas.Slice.Eq.{bytes_eq-Decides}
+use Rattle.hn_base.proofs.Names.{◌≡◌, ◌≢◌, ◌∙◌, ℕ, ◌<◌, ◌≤◌, false, List, length, get_or, take, sym, ap, inl, inr, arith, bytes_eq, cases_Bool, same_number_lists, length-take-le, get_or-take}
+use Rattle.hn_base.proofs.Names.{bytes_eq-Decides}
 
 -- from this place on the bytes are the same
 abbrev pub AreSameFrom : List ℕ → List ℕ → ℕ → ℕ → Type 0

@@ -1,28 +1,15 @@
 -- Two lists of leaves agree in some way: it cannot be that they do not.
-use Rattle.std.proofs.Common.{◌≡◌, ◌≢◌, ◌∙◌, ◌<◌, ◌≤◌, ℕ, zero, suc, List, [], ◌∷◌, length, length-append, refl, ap, sym, inl, inr, arith}
-use Rattle.std.specs.Int.{w32, to_be_bytes}
-use Rattle.std.proofs.lemmas.List.Elements.{All-contains}
-use Rattle.hn_base.specs.Exists.{Some! }
-use Rattle.hn_base.specs.Name.{name_text}
-use Rattle.hn_base.specs.declared.name.Name.{Name}
+use Rattle.hn_base.proofs.Names.{◌≡◌, ◌≢◌, ◌∙◌, ◌<◌, ◌≤◌, ℕ, zero, suc, List, [], ◌∷◌, length, length-append, refl, ap, sym, inl, inr, arith, w32, to_be_bytes, All-contains, Some!, name_text}
+use Rattle.hn_world.proofs.Names.{Name, some_then, body_at, EqualHashesAgreeOrCollide, hash_of, leaf_text, network_hash, Differ, Same, Collide, Leaf, HashIsOfLeaves, leaves_of, Agrees, WorldIsSound}
+use Rattle.hn_world.proofs.Names.{is_named, IsReplayed, IsSoundMember, Parts}
 use Rattle.hn_base.proofs.DecidingTests.{texts_cases}
 use Rattle.hn_base.proofs.Elements.{found_passes}
 use Rattle.hn_base.proofs.FrontOfList.{same_parts}
-use Rattle.hn_base.proofs.SomeExists.{some_by, some_least, some_then}
-use Rattle.hn_hash.specs.Agreement.{body_at, CollidesInPlace, EqualHashesAgreeOrCollide}
-use Rattle.hn_hash.specs.Hash.{hash_of}
+use Rattle.hn_base.proofs.SomeExists.{some_by, some_least}
+use Rattle.hn_hash.specs.Agreement.{CollidesInPlace}
 use Rattle.hn_hash.specs.Laws.{HashHasEightBytes}
-use Rattle.hn_hash.specs.Network.{leaf_entry, leaf_text, network_hash}
-use Rattle.hn_hash.specs.declared.agreement.Agreement.TheVariants.{Differ, Same, Collide}
-use Rattle.hn_hash.specs.declared.leaf.Leaf.{Leaf}
-use Rattle.hn_rules.specs.Laws.{HashIsOfLeaves}
-use Rattle.hn_rules.specs.Nodes.{leaves_of}
+use Rattle.hn_hash.specs.Network.{leaf_entry}
 use Rattle.hn_world.specs.Existing.{AgreementExists, RoutersAgreeSomehow, AgreeSomehow}
-use Rattle.hn_world.specs.Leaves.{Agrees}
-use Rattle.hn_world.specs.Laws.{WorldIsSound}
-use Rattle.hn_world.specs.Names.{is_named}
-use Rattle.hn_world.specs.Replay.{IsReplayed, IsSoundMember}
-use Rattle.hn_world.specs.declared.parts.Parts.{Parts}
 
 -- ---- leaves of one text
 

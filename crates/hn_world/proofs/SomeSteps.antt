@@ -1,33 +1,15 @@
 -- An event that a world accepts has a result: it cannot be that there is none.
-use Rattle.std.proofs.Common.{◌≡◌, ◌∙◌, ℕ, Bool, List, [], ◌∷◌, ◌++◌, Option, Some, None, true, cond, find, length, nat_lt, position, slice_get, refl, sym, ap, subst, arith}
-use Rattle.std.specs.List.{position_or_len}
-use Rattle.std.proofs.lemmas.Bool.{lt-ltb}
-use Rattle.std.proofs.lemmas.List.Folds.{find_at}
-use Rattle.hn_base.specs.Name.{name_text}
-use Rattle.hn_base.specs.declared.ids.NodeId.{NodeId}
-use Rattle.hn_base.specs.declared.name.Name.{Name}
-use Rattle.hn_base.proofs.SomeExists.{some_then}
-use Rattle.hn_rules.specs.declared.done.Done.{Done}
-use Rattle.hn_rules.specs.declared.done.Note.{Note}
-use Rattle.hn_rules.specs.declared.state.State.{State}
-use Rattle.hn_router.specs.Act.{PlainEvent, Arrive, IsEventInRange, IsOfBytes, HasResults}
+use Rattle.hn_base.proofs.Names.{◌≡◌, ◌∙◌, ℕ, Bool, List, [], ◌∷◌, ◌++◌, Option, Some, None, true, cond, length, nat_lt, position, slice_get, refl, sym, ap, subst, arith, position_or_len, lt-ltb}
+use Rattle.hn_base.proofs.Names.{find_at, name_text, slice_get_within}
+use Rattle.hn_world.proofs.Names.{find, NodeId, Name, some_then, Done, Note, State, PlainEvent, Arrive, IsEventInRange, WEvent, Traced, Member, Parts, StepExists, table_limit, is_named, router_place}
+use Rattle.hn_world.proofs.Names.{copy_at, refusal, IsSoundWorld, IsSoundMember, named_by, routed, ActsAt, DoesAt, FitsAt, Step, acted, beside, entered, stopped, taken, with_member}
+use Rattle.hn_router.specs.Act.{IsOfBytes, HasResults}
 use Rattle.hn_router.specs.Laws.{EventHasAResult, NewExists}
-use Rattle.hn_world.specs.declared.event.WEvent.{WEvent}
 use Rattle.hn_world.specs.declared.event.WEvent.TheVariants as event
-use Rattle.hn_world.specs.declared.event.Traced.{Traced}
-use Rattle.hn_world.specs.declared.member.Member.{Member}
-use Rattle.hn_world.specs.declared.parts.Parts.{Parts}
-use Rattle.hn_world.specs.Existing.{HasAStep, IsGiven, IsOfBytesAt, StepExists}
-use Rattle.hn_world.specs.Limits.{table_limit}
-use Rattle.hn_world.specs.Names.{is_named, router_place}
-use Rattle.hn_world.specs.Refusal.{copy_at, refusal}
-use Rattle.hn_world.specs.Replay.{IsSoundWorld, IsSoundMember}
-use Rattle.hn_world.specs.Routed.{named_by, routed}
-use Rattle.hn_world.specs.Step.{ActsAt, DoesAt, FitsAt, Step, acted, beside, entered, stopped, taken, with_member}
+use Rattle.hn_world.specs.Existing.{HasAStep, IsGiven, IsOfBytesAt}
 use Rattle.hn_world.proofs.Accepted.{accepts, is_there, receiver_found, router_found}
 use Rattle.hn_world.proofs.DoneAsPlanned.{copy_there, named_routed}
 use Rattle.hn_world.proofs.SoundRouters.{all_at}
-use Rattle.std.proofs.lemmas.Option.{slice_get_within}
 
 -- the laws of routers on which it rests
 pub record ExistenceLaws : Type 0 where

@@ -1,29 +1,13 @@
 -- The routers of a replayed world.
-use Rattle.std.proofs.Common.{◌≡◌, ◌≤◌, ◌⊎◌, ℕ, true, List, [], ◌∷◌, ◌++◌, Option, Some, None, All, slice_get, inl, inr, refl, sym, subst, arith}
-use Rattle.std.specs.Option.{option_map_or}
-use Rattle.std.proofs.lemmas.Bool.{ltb-false}
-use Rattle.std.proofs.lemmas.List.Elements.{All-nil, All-push, All-set, All-weaker, All-contains}
+use Rattle.hn_base.proofs.Names.{◌≡◌, ◌≤◌, ◌⊎◌, ℕ, true, List, [], ◌∷◌, ◌++◌, Option, Some, None, slice_get, inl, inr, refl, sym, subst, arith, option_map_or, ltb-false, All-nil, All-push, All-set}
+use Rattle.hn_base.proofs.Names.{All-weaker, All-contains, name_text}
+use Rattle.hn_world.proofs.Names.{All, Name, Note, PlainEvent, Arrive, IsEventInRange, IsRouter, State, WEvent, Traced, Version, Member, Parts, table_limit, refusal, link_place, routed, ActsAt}
+use Rattle.hn_world.proofs.Names.{DoesElse, DoesAt, FitsAt, IsWorldEventInRange, attached_to, beside, stopped, empty_world, Goes, IsReplayed, IsSoundMember, IsSoundWorld}
 use Rattle.hn_base.proofs.PartsAtPlaces.{contains_at}
-use Rattle.hn_base.specs.Name.{name_text}
-use Rattle.hn_base.specs.declared.name.Name.{Name}
-use Rattle.hn_rules.specs.declared.done.Note.{Note}
-use Rattle.hn_router.specs.Act.{PlainEvent, Arrive, IsEventInRange}
 use Rattle.hn_router.specs.Laws.{NewIsRouter, RouterStays, MomentIsNow}
-use Rattle.hn_rules.specs.Router.{IsRouter}
-use Rattle.hn_rules.specs.declared.state.State.{State}
-use Rattle.hn_world.specs.declared.event.WEvent.{WEvent}
 use Rattle.hn_world.specs.declared.event.WEvent.TheVariants as event
-use Rattle.hn_world.specs.declared.event.Traced.{Traced}
-use Rattle.hn_base.specs.declared.version.Version.{Version}
 use Rattle.hn_base.specs.declared.version.Version.TheVariants.{One, Two}
-use Rattle.hn_world.specs.declared.member.Member.{Member}
-use Rattle.hn_world.specs.declared.parts.Parts.{Parts}
-use Rattle.hn_world.specs.Limits.{table_limit}
-use Rattle.hn_world.specs.Refusal.{refusal}
-use Rattle.hn_world.specs.Names.{link_place}
-use Rattle.hn_world.specs.Routed.{routed}
-use Rattle.hn_world.specs.Step.{ActsAt, DoesElse, DoesAt, FitsAt, IsWorldEventInRange, attached_to, beside, stopped}
-use Rattle.hn_world.specs.Replay.{empty_world, Goes, Replays, IsReplayed, IsSoundMember, IsSoundWorld, Always}
+use Rattle.hn_world.specs.Replay.{Replays, Always}
 use Rattle.hn_world.proofs.Accepted.{accepts}
 use Rattle.hn_world.proofs.OneStep.{Any}
 

@@ -1,15 +1,13 @@
 -- Copies of datagrams: the first that waits, how many wait, and how many bytes they have.
-use Rattle.std.proofs.Common.{◌≡◌, ℕ, zero, suc, ◌+◌, ◌-◌, ◌<◌, ◌≤◌, ◌^◌, Bool, true, false, not, cond, eqb, min, List, [], ◌∷◌, ◌++◌, length, get_or, Some, None, refl, sym, ◌∙◌, ap, ⊎_elim, arith}
-use Rattle.std.specs.Prelude.{All, position, unwrap_or, nat_lt, count_by, slice_get, slice_set}
-use Rattle.std.specs.List.{position_or_len, sum_by}
-use Rattle.std.proofs.lemmas.Bool.{cases_lt, ltb-false, eqb-true, false≢true}
+use Rattle.hn_base.proofs.Names.{◌≡◌, ℕ, zero, suc, ◌+◌, ◌-◌, ◌<◌, ◌≤◌, ◌^◌, Bool, true, false, not, cond, eqb, min, List, [], ◌∷◌, ◌++◌, length, get_or, Some, None, refl, sym, ◌∙◌, ap, ⊎_elim, arith}
+use Rattle.hn_base.proofs.Names.{All, unwrap_or, position_or_len, sum_by, cases_lt, ltb-false, eqb-true, false≢true, All-head, All-tail, position_or_len_is, fails_before_first, sum_by-append}
+use Rattle.hn_base.proofs.Names.{sum_by-cons, sum_by-set, get_or_from_slice_get, slice_get_within}
+use Rattle.hn_world.proofs.Names.{MailCopy, first_waiting, bytes_of_copies}
+use Rattle.std.specs.Prelude.{position, nat_lt, count_by, slice_get, slice_set}
 use Rattle.std.proofs.lemmas.List.{set-get_or}
-use Rattle.std.proofs.lemmas.List.Elements.{All-head, All-tail}
 use Rattle.std.proofs.lemmas.List.Folds.{prefix_len-append}
-use Rattle.std.proofs.lemmas.List.Sums.{prefix_len-le-length, position_or_len_is, fails_before_first, passes_at_first, sum-map, sum_by-append, sum_by-cons, sum_by-set}
-use Rattle.std.proofs.lemmas.Option.{get_or_from_slice_get, slice_get_within}
-use Rattle.hn_world.specs.declared.copies.MailCopy.{MailCopy}
-use Rattle.hn_world.specs.Waiting.{first_waiting, bytes_of_copies, IsMail}
+use Rattle.std.proofs.lemmas.List.Sums.{prefix_len-le-length, passes_at_first, sum-map}
+use Rattle.hn_world.specs.Waiting.{IsMail}
 
 -- ---- the first element that passes
 

@@ -1,29 +1,13 @@
 -- The routers and the datagrams of a replayed world are within its limits.
-use Rattle.std.proofs.Common.{◌≡◌, ◌≤◌, ◌∙◌, ◌-◌, ℕ, true, List, [], Option, Some, None, All, length, refl, sym, ap, subst, arith}
-use Rattle.std.proofs.lemmas.List.Elements.{All-nil, All-push, All-set, All-append, All-weaker}
-use Rattle.hn_base.specs.declared.version.Version.{Version}
+use Rattle.hn_base.proofs.Names.{◌≡◌, ◌≤◌, ◌∙◌, ◌-◌, ℕ, true, List, [], Option, Some, None, length, refl, sym, ap, subst, arith, All-nil, All-push, All-set, All-append, All-weaker}
+use Rattle.hn_world.proofs.Names.{All, Version, Port, Nodes, HeldNode, Note, State, PlainEvent, Arrive, IsEventInRange, Name, MailCopy, WEvent, Traced, Member, Parts, table_limit, copies_of, Replays}
+use Rattle.hn_world.proofs.Names.{IsSoundMember, IsSoundWorld, routed, ActsAt, DoesAt, DoesElse, FitsAt, beside, stopped, AreWithinLimits}
 use Rattle.hn_dncp.specs.Peers.{ArePeers}
-use Rattle.hn_dncp.specs.declared.port.Port.{Port}
-use Rattle.hn_store.specs.Nodes.{Nodes, IsIntact}
-use Rattle.hn_store.specs.declared.stored.HeldNode.{HeldNode}
-use Rattle.hn_rules.specs.declared.done.Note.{Note}
-use Rattle.hn_rules.specs.declared.state.State.{State}
+use Rattle.hn_store.specs.Nodes.{IsIntact}
 use Rattle.hn_rules.specs.Lengths.{most_datagram}
-use Rattle.hn_router.specs.Act.{PlainEvent, Arrive, IsEventInRange}
 use Rattle.hn_router.specs.Laws.{SendsAreShort, LimitStays}
-use Rattle.hn_base.specs.declared.name.Name.{Name}
-use Rattle.hn_world.specs.declared.copies.MailCopy.{MailCopy}
-use Rattle.hn_world.specs.declared.event.WEvent.{WEvent}
 use Rattle.hn_world.specs.declared.event.WEvent.TheVariants as event
-use Rattle.hn_world.specs.declared.event.Traced.{Traced}
-use Rattle.hn_world.specs.declared.member.Member.{Member}
-use Rattle.hn_world.specs.declared.parts.Parts.{Parts}
-use Rattle.hn_world.specs.Limits.{table_limit}
-use Rattle.hn_world.specs.Mail.{copies_of}
-use Rattle.hn_world.specs.Replay.{Replays, IsSoundMember, IsSoundWorld}
-use Rattle.hn_world.specs.Routed.{routed}
-use Rattle.hn_world.specs.Step.{ActsAt, DoesAt, DoesElse, FitsAt, beside, stopped}
-use Rattle.hn_world.specs.Within.{AreWithinLimits, RouterIsWithinLimits}
+use Rattle.hn_world.specs.Within.{RouterIsWithinLimits}
 use Rattle.hn_world.proofs.CopiesAsSent.{copied, still_copied}
 use Rattle.hn_world.proofs.OneStep.{Any}
 use Rattle.hn_world.proofs.SoundRouters.{StayLaws, KeepsRouters, beside_keeps, sound_step, replay_keeps, all_at}

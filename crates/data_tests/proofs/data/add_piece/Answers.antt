@@ -1,4 +1,4 @@
-use Rattle.std.proofs.lemmas.List.Elements.{All-push}
+use Rattle.hn_base.proofs.Names.{All-push}
 use Rattle.hn_data.specs.OwnData.{IsEncoded}
 use Rattle.data_tests.proofs.data.add_piece.Goals as goal
 

@@ -1,6 +1,5 @@
-use Rattle.std.proofs.Common.{[], ◌∷◌, refl, arith}
+use Rattle.hn_base.proofs.Names.{[], ◌∷◌, refl, arith, nat_cmp}
 use Rattle.std.specs.List.Sorted.{IsStrictlySortedBy}
-use Rattle.std.specs.Ordering.{nat_cmp}
 use Rattle.data_tests.proofs.nodes.aged_network.Goals as goal
 
 one_to_four_ascend : IsStrictlySortedBy nat_cmp (1 ∷ 2 ∷ 3 ∷ 4 ∷ [])

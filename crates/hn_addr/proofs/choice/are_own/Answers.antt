@@ -1,8 +1,7 @@
-use Rattle.std.proofs.Common.{◌≡◌, List, subst}
+use Rattle.hn_base.proofs.Names.{◌≡◌, List, subst, slice_eq-Decides}
+use Rattle.hn_addr.proofs.Names.{OwnAddress}
 use Rattle.std.specs.Bool.{Decides}
-use Rattle.std.proofs.lemmas.Slice.Eq.{slice_eq-Decides}
 use Rattle.hn_base.proofs.DecidingTests.{numbers_decide}
-use Rattle.hn_own.specs.Addresses.{OwnAddress}
 use Rattle.hn_addr.proofs.OneChoosing.{address_told}
 use Rattle.hn_addr.proofs.choice.are_own.Goals as goal
 

@@ -1,5 +1,5 @@
-use Rattle.std.proofs.Common.{◌↔◌, List, Contains, sym, subst}
-use Rattle.hn_own.specs.Addresses.{OwnAddress}
+use Rattle.hn_base.proofs.Names.{◌↔◌, List, Contains, sym, subst}
+use Rattle.hn_addr.proofs.Names.{OwnAddress}
 use Rattle.hn_addr.proofs.choice.sorted.Goals as goal
 
 pub returns-clause-same : goal.returns-clause-same

@@ -1,6 +1,5 @@
-use Rattle.std.proofs.Common.{◌≡◌, ◌∙◌, ◌↔◌, [], Bool, IsTrue, refl, sym, subst}
-use Rattle.std.proofs.lemmas.Bool.{false≢true}
-use Rattle.hn_addr.specs.Addresses.{IsAddressStill}
+use Rattle.hn_base.proofs.Names.{◌≡◌, ◌∙◌, ◌↔◌, [], Bool, IsTrue, refl, sym, subst, false≢true}
+use Rattle.hn_addr.proofs.Names.{IsAddressStill}
 use Rattle.hn_addr.proofs.OneChoosing.{still_so, only_still}
 use Rattle.hn_addr.proofs.choice.still.Goals as goal
 use Rattle.hn_addr.proofs.choice.still.Goals.{then-is_empty, else-is_empty}

@@ -1,13 +1,6 @@
-use Rattle.std.proofs.Common.{◌≡◌, ◌∙◌, [], List, Some, length, refl, slice_get, take, subst, sym, ap}
-use Rattle.std.proofs.lemmas.List.{take_all}
-use Rattle.std.proofs.lemmas.Option.{slice_get_read}
-use Rattle.hn_assign.specs.declared.assigned.Assigned.{Assigned}
-use Rattle.hn_base.specs.Rules.{Each}
-use Rattle.hn_base.proofs.FrontOfList.{front_at}
+use Rattle.hn_base.proofs.Names.{◌≡◌, ◌∙◌, [], List, Some, length, refl, slice_get, take, subst, sym, ap, take_all, slice_get_read, Each}
+use Rattle.hn_addr.proofs.Names.{Assigned, front_at, seen_by, IsChosenFor, none_chosen, Choosing}
 use Rattle.hn_base.proofs.RulesInTurn.{each_more}
-use Rattle.hn_rules.specs.Seen.{seen_by}
-use Rattle.hn_addr.specs.Addresses.{IsChosenFor, none_chosen}
-use Rattle.hn_addr.specs.declared.choosing.Choosing.{Choosing}
 use Rattle.hn_addr.proofs.OneChoosing.{draws_none, draws_more, took_all}
 use Rattle.hn_addr.proofs.choosing.choose_all.Goals as goal
 

@@ -1,8 +1,5 @@
-use Rattle.std.proofs.Common.{take, []}
-use Rattle.hn_base.specs.Rules.{Each}
-use Rattle.hn_rules.specs.Seen.{seen_by}
-use Rattle.hn_addr.specs.Addresses.{IsChosenFor, none_chosen}
-use Rattle.hn_addr.specs.Choosings.{Draws}
+use Rattle.hn_base.proofs.Names.{take, [], Each}
+use Rattle.hn_addr.proofs.Names.{seen_by, IsChosenFor, none_chosen, Draws}
 use Rattle.hn_addr.proofs.choosing.choose_all.Given as goal
 
 abbrev pub invariant-loop-c : goal.invariant-loop-c

@@ -1,4 +1,4 @@
-use Rattle.std.proofs.Common.{arith}
+use Rattle.hn_base.proofs.Names.{arith}
 use Rattle.hn_addr.proofs.NumbersInPrefix.{address_fits}
 use Rattle.hn_addr.proofs.fitting.address_of.Goals as goal
 

@@ -1,4 +1,4 @@
-use Rattle.std.proofs.Common.{◌-◌, ◌∙◌, ℕ, min, ap}
+use Rattle.hn_base.proofs.Names.{◌-◌, ◌∙◌, ℕ, min, ap}
 use Rattle.hn_addr.proofs.NumbersInPrefix.{count_from}
 use Rattle.hn_addr.proofs.fitting.count.Goals as goal
 

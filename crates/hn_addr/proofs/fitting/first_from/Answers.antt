@@ -1,5 +1,4 @@
-use Rattle.std.proofs.Common.{ℕ, ◌≤◌, refl, sym, subst, arith}
-use Rattle.std.proofs.lemmas.Bool.{false≢true}
+use Rattle.hn_base.proofs.Names.{ℕ, ◌≤◌, refl, sym, subst, arith, false≢true}
 use Rattle.hn_addr.specs.Numbers.{IsFreeAddress}
 use Rattle.hn_addr.proofs.FirstFittingNumber.{none_at_first, one_further, first_found, none_found}
 use Rattle.hn_addr.proofs.fitting.first_from.Goals as goal

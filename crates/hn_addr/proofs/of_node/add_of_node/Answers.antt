@@ -1,4 +1,4 @@
-use Rattle.std.proofs.lemmas.Result.{on_ok_weaker}
+use Rattle.hn_base.proofs.Names.{on_ok_weaker}
 use Rattle.hn_addr.proofs.GrownByEach.{grown_by_node}
 use Rattle.hn_addr.proofs.of_node.add_of_node.Goals as goal
 

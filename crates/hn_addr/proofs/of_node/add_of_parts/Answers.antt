@@ -1,7 +1,4 @@
-use Rattle.std.proofs.Common.{◌≡◌, ◌↔◌, refl, length, Option, Some, slice_get, subst}
-use Rattle.std.specs.Prelude.{MatchOption}
-use Rattle.std.proofs.lemmas.List.{take_all}
-use Rattle.std.proofs.lemmas.Option.{slice_get_read}
+use Rattle.hn_base.proofs.Names.{◌≡◌, ◌↔◌, refl, length, Option, Some, slice_get, subst, MatchOption, take_all, slice_get_read}
 use Rattle.hn_addr.proofs.GrownByEach.{IsGrownByEach, grown_at_first, grown_next, grown_by_none, grown_by_one}
 use Rattle.hn_addr.proofs.of_node.add_of_parts.Goals as goal
 use Rattle.hn_addr.proofs.of_node.add_of_parts.Goals.{in-Some+in_ok-push-in-Some, in-None}

@@ -1,4 +1,4 @@
-use Rattle.std.proofs.Common.{take}
+use Rattle.hn_base.proofs.Names.{take}
 use Rattle.hn_addr.proofs.GrownByEach.{IsGrownByEach}
 use Rattle.hn_addr.proofs.of_node.add_of_parts.Given as goal
 

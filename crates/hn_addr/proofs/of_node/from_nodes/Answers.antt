@@ -1,8 +1,6 @@
-use Rattle.std.proofs.Common.{◌↔◌, ◌∙◌, List, Contains, subst}
-use Rattle.std.proofs.lemmas.Result.{IfOk-weaker}
-use Rattle.hn_data.specs.declared.view.Entry.{Entry}
-use Rattle.hn_rules.specs.Seen.{seen_by}
-use Rattle.hn_addr.specs.OfNodes.{IsGivenByOne, IsOfNode, AreOfNodes}
+use Rattle.hn_base.proofs.Names.{◌↔◌, ◌∙◌, List, Contains, subst, IfOk-weaker}
+use Rattle.hn_addr.proofs.Names.{Entry, seen_by, IsGivenByOne, IsOfNode}
+use Rattle.hn_addr.specs.OfNodes.{AreOfNodes}
 use Rattle.hn_addr.proofs.of_node.from_nodes.Goals as goal
 
 pub returns : goal.returns

@@ -1,7 +1,5 @@
-use Rattle.std.proofs.Common.{◌≡◌, refl, length, Some, slice_get, subst, []}
-use Rattle.std.proofs.lemmas.List.{take_all}
-use Rattle.std.proofs.lemmas.Option.{slice_get_read}
-use Rattle.hn_addr.specs.OfNodes.{IsOfNode}
+use Rattle.hn_base.proofs.Names.{◌≡◌, refl, length, Some, slice_get, subst, [], take_all, slice_get_read}
+use Rattle.hn_addr.proofs.Names.{IsOfNode}
 use Rattle.hn_addr.proofs.GrownByEach.{IsGrownByEach, grown_at_first, grown_next, grown_from_none}
 use Rattle.hn_addr.proofs.of_node.of_nodes.Goals as goal
 

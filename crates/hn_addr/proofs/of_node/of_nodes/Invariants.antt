@@ -1,5 +1,5 @@
-use Rattle.std.proofs.Common.{take, []}
-use Rattle.hn_addr.specs.OfNodes.{IsOfNode}
+use Rattle.hn_base.proofs.Names.{take, []}
+use Rattle.hn_addr.proofs.Names.{IsOfNode}
 use Rattle.hn_addr.proofs.GrownByEach.{IsGrownByEach}
 use Rattle.hn_addr.proofs.of_node.of_nodes.Given as goal
 

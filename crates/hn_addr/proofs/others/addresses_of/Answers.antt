@@ -1,4 +1,4 @@
-use Rattle.std.proofs.Common.{◌↔◌, ℕ, List, Contains, subst}
+use Rattle.hn_base.proofs.Names.{◌↔◌, ℕ, List, Contains, subst}
 use Rattle.hn_addr.proofs.others.addresses_of.Goals as goal
 
 pub returns-clause-same : goal.returns-clause-same

@@ -1,9 +1,5 @@
-use Rattle.std.proofs.Common.{List, get_or, refl, subst}
-use Rattle.std.proofs.lemmas.Bool.{false≢true}
-use Rattle.std.proofs.lemmas.List.{take_all}
-use Rattle.std.proofs.lemmas.Option.{slice_get-get_or}
-use Rattle.hn_own.specs.Addresses.{OwnAddress}
-use Rattle.hn_addr.specs.Own.{IsLeastFound}
+use Rattle.hn_base.proofs.Names.{List, get_or, refl, subst, false≢true, take_all, slice_get-get_or}
+use Rattle.hn_addr.proofs.Names.{OwnAddress, IsLeastFound}
 use Rattle.hn_addr.proofs.LeastOwnAddress.{least_none, passed_next, taken_next}
 use Rattle.hn_addr.proofs.stays.least_own.Goals as goal
 use Rattle.hn_addr.proofs.stays.least_own.Goals.{then-is_own_inside, else-is_own_inside}

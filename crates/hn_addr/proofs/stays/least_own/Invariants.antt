@@ -1,5 +1,5 @@
-use Rattle.std.proofs.Common.{take}
-use Rattle.hn_addr.specs.Own.{IsLeastFound}
+use Rattle.hn_base.proofs.Names.{take}
+use Rattle.hn_addr.proofs.Names.{IsLeastFound}
 use Rattle.hn_addr.proofs.stays.least_own.Given as goal
 
 abbrev pub invariant-loop-a : goal.invariant-loop-a

@@ -1,9 +1,5 @@
-use Rattle.std.proofs.Common.{List, refl, ap, subst}
-use Rattle.std.proofs.lemmas.Bool.{false≢true}
-use Rattle.hn_base.specs.declared.ids.NodeId.{NodeId}
-use Rattle.hn_own.specs.Addresses.{OwnAddress}
-use Rattle.hn_rules.specs.Seen.{seen_by}
-use Rattle.hn_addr.specs.Addresses.{IsLeastOwn}
+use Rattle.hn_base.proofs.Names.{List, refl, ap, subst, false≢true}
+use Rattle.hn_addr.proofs.Names.{NodeId, OwnAddress, seen_by, IsLeastOwn}
 use Rattle.hn_addr.proofs.LeastOwnAddress.{above_goes, come_goes, stays_so}
 use Rattle.hn_addr.proofs.stays.stays.Goals as goal
 use Rattle.hn_addr.proofs.stays.stays.Goals.{then-is_above-via-then-is_above, then-is_above-via-else-is_above+then-has_come}

@@ -1,4 +1,4 @@
-use Rattle.std.proofs.Common.{arith}
+use Rattle.hn_base.proofs.Names.{arith}
 use Rattle.hn_advert.proofs.Fields.{flags_in}
 use Rattle.hn_advert.proofs.header.flags_of.Goals as goal
 

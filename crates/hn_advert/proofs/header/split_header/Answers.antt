@@ -1,4 +1,4 @@
-use Rattle.std.proofs.Common.{arith}
+use Rattle.hn_base.proofs.Names.{arith}
 use Rattle.hn_advert.proofs.Fields.{header_begins}
 use Rattle.hn_advert.proofs.header.split_header.Goals as goal
 

@@ -1,7 +1,5 @@
-use Rattle.std.proofs.Common.{◌∷◌, refl}
-use Rattle.std.proofs.lemmas.List.Elements.{filter_map-append}
-use Rattle.hn_advert.specs.Layout.{OtherOption}
-use Rattle.hn_advert.specs.Advert.{info_of}
+use Rattle.hn_base.proofs.Names.{◌∷◌, refl, filter_map-append}
+use Rattle.hn_advert.proofs.Names.{OtherOption, info_of}
 use Rattle.hn_advert.proofs.laws.other_options_are_skipped.Goals as goal
 
 pub returns : goal.returns

@@ -1,5 +1,5 @@
-use Rattle.std.proofs.Common.{List, length}
-use Rattle.hn_advert.specs.declared.advert.Info.{Info}
+use Rattle.hn_base.proofs.Names.{List, length}
+use Rattle.hn_advert.proofs.Names.{Info}
 use Rattle.hn_advert.proofs.Steps.{IsReadTo}
 use Rattle.hn_advert.proofs.options.check_options.Given as goal
 

@@ -1,6 +1,5 @@
-use Rattle.std.proofs.Common.{List, Some, None, subst}
-use Rattle.std.proofs.lemmas.List.{append-nil}
-use Rattle.hn_advert.specs.declared.advert.Info.{Info}
+use Rattle.hn_base.proofs.Names.{List, Some, None, subst, append-nil}
+use Rattle.hn_advert.proofs.Names.{Info}
 use Rattle.hn_advert.proofs.Steps.{IsReadTo, reads_more, breaks_off}
 use Rattle.hn_advert.proofs.Unique.{no_first_fault}
 use Rattle.hn_advert.proofs.options.infos_of.Goals as goal

@@ -1,4 +1,4 @@
-use Rattle.std.proofs.Common.{length}
+use Rattle.hn_base.proofs.Names.{length}
 use Rattle.hn_advert.proofs.Steps.{IsReadTo}
 use Rattle.hn_advert.proofs.options.infos_of.Given as goal
 

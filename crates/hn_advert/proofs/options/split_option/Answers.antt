@@ -1,5 +1,4 @@
-use Rattle.std.proofs.Common.{◌*◌, arith}
-use Rattle.std.proofs.lemmas.List.{take_rest}
+use Rattle.hn_base.proofs.Names.{◌*◌, arith, take_rest}
 use Rattle.hn_advert.proofs.Fields.{other_begins}
 use Rattle.hn_advert.proofs.options.split_option.Goals as goal
 

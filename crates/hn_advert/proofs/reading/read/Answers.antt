@@ -1,7 +1,5 @@
-use Rattle.std.proofs.Common.{Ok, inl, inr, ap}
-use Rattle.std.proofs.lemmas.Result.{err_from_is_err_and}
-use Rattle.hn_advert.specs.declared.fault.RaFault.{RaFault}
-use Rattle.hn_advert.specs.Fault.{AdvertFault}
+use Rattle.hn_base.proofs.Names.{Ok, inl, inr, ap, err_from_is_err_and}
+use Rattle.hn_advert.proofs.Names.{RaFault, AdvertFault}
 use Rattle.hn_advert.proofs.Answered.{fault_is_answered, advert_is_answered, memory_is_answered}
 use Rattle.hn_advert.proofs.Steps.{advert_of_parts, has_advert, has_fault}
 use Rattle.hn_advert.proofs.Unique.{same_advert, no_advert}

@@ -1,5 +1,5 @@
-use Rattle.std.proofs.Common.{◌≡◌, ◌<◌, ◌≤◌, length, get_or, List, ap, ◌∙◌}
-use Rattle.hn_advert.specs.declared.advert.Info.{Info}
+use Rattle.hn_base.proofs.Names.{◌≡◌, ◌<◌, ◌≤◌, length, get_or, List, ap, ◌∙◌}
+use Rattle.hn_advert.proofs.Names.{Info}
 use Rattle.hn_advert.proofs.Written.{writes_more, all_written}
 use Rattle.hn_advert.proofs.writing.bytes.Goals as goal
 

@@ -1,4 +1,4 @@
-use Rattle.std.proofs.Common.{append_assoc}
+use Rattle.hn_base.proofs.Names.{append_assoc}
 use Rattle.hn_advert.proofs.writing.push_option.Goals as goal
 
 pub returns-clause-written : goal.returns-clause-written

@@ -1,5 +1,5 @@
-use Rattle.std.proofs.Common.{IsTrue, subst, sym}
-use Rattle.hn_assign.specs.Pair.{wish_pair}
+use Rattle.hn_base.proofs.Names.{IsTrue, subst, sym}
+use Rattle.hn_assign.proofs.Names.{wish_pair}
 use Rattle.hn_assign.proofs.AroundPair.{found_where}
 use Rattle.hn_assign.proofs.ascending.is_wished.Goals as goal
 

@@ -1,7 +1,5 @@
-use Rattle.std.proofs.Common.{◌≡◌, subst, rules}
-use Rattle.std.specs.declared.cmp.Ordering.TheVariants.{Less}
-use Rattle.hn_assign.specs.declared.pair.Pair.{Pair}
-use Rattle.hn_assign.specs.Pair.{pair_cmp}
+use Rattle.hn_base.proofs.Names.{◌≡◌, subst, rules, Less}
+use Rattle.hn_assign.proofs.Names.{Pair, pair_cmp}
 use Rattle.hn_assign.proofs.AroundPair.{place_at_end}
 use Rattle.hn_assign.proofs.ascending.place_at_end.Goals as goal
 

@@ -1,5 +1,4 @@
-use Rattle.std.proofs.Common.{rules}
-use Rattle.std.proofs.lemmas.List.Sorted.{answers_always}
+use Rattle.hn_base.proofs.Names.{rules, answers_always}
 use Rattle.hn_assign.proofs.AroundPair.{place_from_search}
 use Rattle.hn_assign.proofs.ascending.place_of.Goals as goal
 

@@ -1,5 +1,4 @@
-use Rattle.std.proofs.Common.{◌∙◌, ap, sym, suc, take, drop, length, ◌<◌}
-use Rattle.std.proofs.lemmas.List.{set_split, take-append-drop}
+use Rattle.hn_base.proofs.Names.{◌∙◌, ap, sym, suc, take, drop, length, ◌<◌, set_split, take-append-drop}
 use Rattle.hn_assign.proofs.AroundPair.{joined, put_at, put_between}
 use Rattle.hn_assign.proofs.ascending.put.Goals as goal
 

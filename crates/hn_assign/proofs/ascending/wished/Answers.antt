@@ -1,6 +1,5 @@
-use Rattle.std.proofs.Common.{sym, subst, ◌∙◌}
-use Rattle.std.proofs.lemmas.Bool.{false≢true}
-use Rattle.hn_assign.specs.Pair.{IsWished}
+use Rattle.hn_base.proofs.Names.{sym, subst, ◌∙◌, false≢true}
+use Rattle.hn_assign.proofs.Names.{IsWished}
 use Rattle.hn_assign.proofs.Keeping.{keeping_none, keeping_passed, keeping_kept, keeping_all}
 use Rattle.hn_assign.proofs.ascending.wished.Goals as goal
 use Rattle.hn_assign.proofs.ascending.wished.Goals.{then-is_wished+in_ok-push, else-is_wished}

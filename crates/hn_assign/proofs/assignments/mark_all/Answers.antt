@@ -1,7 +1,6 @@
-use Rattle.std.proofs.Common.{◌≡◌, ap, ◌∙◌, sym}
+use Rattle.hn_base.proofs.Names.{◌≡◌, ap, ◌∙◌, sym, map_over_more}
+use Rattle.hn_assign.proofs.Names.{marked_applied}
 use Rattle.std.specs.Prelude.{slice_set}
-use Rattle.std.proofs.lemmas.List.Edits.{map_over_more}
-use Rattle.hn_assign.specs.Marks.{marked_applied}
 use Rattle.hn_assign.proofs.assignments.mark_all.Goals as goal
 
 pub loop-c-preserved : goal.loop-c-preserved

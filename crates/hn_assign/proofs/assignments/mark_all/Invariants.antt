@@ -1,5 +1,5 @@
-use Rattle.std.proofs.Common.{◌≡◌, ◌++◌, take, drop, map}
-use Rattle.hn_assign.specs.Marks.{marked_applied}
+use Rattle.hn_base.proofs.Names.{◌≡◌, ◌++◌, take, drop, map}
+use Rattle.hn_assign.proofs.Names.{marked_applied}
 use Rattle.hn_assign.proofs.assignments.mark_all.Given as goal
 
 abbrev pub invariant-loop-c : goal.invariant-loop-c

@@ -1,5 +1,4 @@
-use Rattle.hn_base.proofs.NextDue.{sooner_each}
-use Rattle.hn_assign.specs.Due.{IsBackoffDue}
+use Rattle.hn_assign.proofs.Names.{sooner_each, IsBackoffDue}
 use Rattle.hn_assign.proofs.due.first_due.Goals as goal
 
 pub loop-b-preserved : goal.loop-b-preserved

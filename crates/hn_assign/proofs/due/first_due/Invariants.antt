@@ -1,6 +1,5 @@
-use Rattle.std.proofs.Common.{take}
-use Rattle.hn_base.specs.Sooner.{IsSooner, IsOfElement}
-use Rattle.hn_assign.specs.Due.{IsBackoffDue}
+use Rattle.hn_base.proofs.Names.{take, IsSooner, IsOfElement}
+use Rattle.hn_assign.proofs.Names.{IsBackoffDue}
 use Rattle.hn_assign.proofs.due.first_due.Given as goal
 
 abbrev pub invariant-loop-b : goal.invariant-loop-b

@@ -1,5 +1,4 @@
-use Rattle.hn_base.proofs.NextDue.{sooner_each}
-use Rattle.hn_assign.specs.Due.{IsMarkDue}
+use Rattle.hn_assign.proofs.Names.{sooner_each, IsMarkDue}
 use Rattle.hn_assign.proofs.due.first_mark.Goals as goal
 
 pub loop-c-preserved : goal.loop-c-preserved

@@ -1,6 +1,5 @@
-use Rattle.std.proofs.Common.{take}
-use Rattle.hn_base.specs.Sooner.{IsSooner, IsOfElement}
-use Rattle.hn_assign.specs.Due.{IsMarkDue}
+use Rattle.hn_base.proofs.Names.{take, IsSooner, IsOfElement}
+use Rattle.hn_assign.proofs.Names.{IsMarkDue}
 use Rattle.hn_assign.proofs.due.first_mark.Given as goal
 
 abbrev pub invariant-loop-c : goal.invariant-loop-c

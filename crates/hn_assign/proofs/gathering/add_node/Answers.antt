@@ -1,7 +1,5 @@
-use Rattle.std.proofs.Common.{◌≡◌, ◌↔◌, ◌⊎◌, List, Contains, subst}
-use Rattle.std.proofs.lemmas.List.{take_all}
-use Rattle.hn_data.specs.declared.said.AssignedPrefix.{AssignedPrefix}
-use Rattle.hn_assign.specs.declared.assigned.Advertised.{Advertised}
+use Rattle.hn_base.proofs.Names.{◌≡◌, ◌↔◌, ◌⊎◌, List, Contains, subst, take_all}
+use Rattle.hn_assign.proofs.Names.{AssignedPrefix, Advertised}
 use Rattle.hn_assign.proofs.AdvertisedBy.{said_by, of_node, both}
 use Rattle.hn_assign.proofs.GrownByEach.{Of, grown_none, grown_more, push_adds}
 use Rattle.hn_assign.proofs.gathering.add_node.Goals as goal

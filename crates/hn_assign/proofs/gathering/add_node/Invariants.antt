@@ -1,4 +1,4 @@
-use Rattle.std.proofs.Common.{◌≡◌, take}
+use Rattle.hn_base.proofs.Names.{◌≡◌, take}
 use Rattle.hn_assign.proofs.AdvertisedBy.{said_by}
 use Rattle.hn_assign.proofs.GrownByEach.{Grown}
 use Rattle.hn_assign.proofs.gathering.add_node.Given as goal

@@ -1,8 +1,6 @@
-use Rattle.std.proofs.Common.{◌≡◌, ◌≢◌, ◌∙◌, false, nat_eq, sym, arith}
-use Rattle.std.proofs.lemmas.Result.{on_ok_weaker}
-use Rattle.std.proofs.lemmas.Grind.{common_steps}
-use Rattle.hn_data.specs.Said.{HasVersion}
-use Rattle.hn_assign.specs.declared.assigned.Advertised.{Advertised}
+use Rattle.hn_base.proofs.Names.{◌≡◌, ◌≢◌, ◌∙◌, false, sym, arith, on_ok_weaker, common_steps}
+use Rattle.hn_assign.proofs.Names.{HasVersion, Advertised}
+use Rattle.std.proofs.Common.{nat_eq}
 use Rattle.hn_assign.proofs.AdvertisedBy.{other_some, both}
 use Rattle.hn_assign.proofs.gathering.add_other.Goals as goal
 

@@ -1,7 +1,5 @@
-use Rattle.std.proofs.Common.{◌↔◌, ◌⊎◌, List, Contains, subst}
-use Rattle.std.proofs.lemmas.List.{take_all}
-use Rattle.hn_data.specs.declared.view.Entry.{Entry}
-use Rattle.hn_assign.specs.Gathered.{IsOfOther}
+use Rattle.hn_base.proofs.Names.{◌↔◌, ◌⊎◌, List, Contains, subst, take_all}
+use Rattle.hn_assign.proofs.Names.{Entry, IsOfOther}
 use Rattle.hn_assign.proofs.GrownByEach.{Of, grown_more}
 use Rattle.hn_assign.proofs.gathering.add_others.Goals as goal
 

@@ -1,5 +1,5 @@
-use Rattle.std.proofs.Common.{take}
-use Rattle.hn_assign.specs.Gathered.{IsOfOther}
+use Rattle.hn_base.proofs.Names.{take}
+use Rattle.hn_assign.proofs.Names.{IsOfOther}
 use Rattle.hn_assign.proofs.GrownByEach.{Grown}
 use Rattle.hn_assign.proofs.gathering.add_others.Given as goal
 

@@ -1,7 +1,5 @@
-use Rattle.std.proofs.Common.{◌↔◌, ◌⊎◌, List, Contains, subst}
-use Rattle.std.proofs.lemmas.List.{take_all}
-use Rattle.hn_assign.specs.declared.assigned.Assigned.{Assigned}
-use Rattle.hn_assign.specs.Gathered.{IsOwn}
+use Rattle.hn_base.proofs.Names.{◌↔◌, ◌⊎◌, List, Contains, subst, take_all}
+use Rattle.hn_assign.proofs.Names.{Assigned, IsOwn}
 use Rattle.hn_assign.proofs.GrownByEach.{Of, grown_more}
 use Rattle.hn_assign.proofs.gathering.add_own.Goals as goal
 

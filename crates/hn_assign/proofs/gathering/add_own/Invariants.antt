@@ -1,5 +1,5 @@
-use Rattle.std.proofs.Common.{take}
-use Rattle.hn_assign.specs.Gathered.{IsOwn}
+use Rattle.hn_base.proofs.Names.{take}
+use Rattle.hn_assign.proofs.Names.{IsOwn}
 use Rattle.hn_assign.proofs.GrownByEach.{Grown}
 use Rattle.hn_assign.proofs.gathering.add_own.Given as goal
 

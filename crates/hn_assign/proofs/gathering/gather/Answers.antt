@@ -1,7 +1,5 @@
-use Rattle.std.proofs.Common.{◌↔◌, ◌⊎◌, List, Contains, subst}
-use Rattle.hn_data.specs.View.{plain_view}
-use Rattle.hn_assign.specs.declared.assigned.Assigned.{Assigned}
-use Rattle.hn_assign.specs.Gathered.{IsOwn}
+use Rattle.hn_base.proofs.Names.{◌↔◌, ◌⊎◌, List, Contains, subst}
+use Rattle.hn_assign.proofs.Names.{plain_view, Assigned, IsOwn}
 use Rattle.hn_assign.proofs.AdvertisedBy.{advertised_all}
 use Rattle.hn_assign.proofs.gathering.gather.Goals as goal
 

@@ -1,6 +1,6 @@
-use Rattle.std.proofs.Common.{rules}
-use Rattle.std.proofs.lemmas.List.Sorted.{IsNonDecreasingBy-from_sort_by_key, Contains-permutation, IsPermutation-sym}
-use Rattle.hn_assign.specs.declared.assigned.Advertised.{Advertised}
+use Rattle.hn_base.proofs.Names.{rules, Contains-permutation, IsPermutation-sym}
+use Rattle.hn_assign.proofs.Names.{Advertised}
+use Rattle.std.proofs.lemmas.List.Sorted.{IsNonDecreasingBy-from_sort_by_key}
 use Rattle.hn_assign.proofs.index.order_by_bits.Goals as goal
 
 pub returns-clause-ascending : goal.returns-clause-ascending

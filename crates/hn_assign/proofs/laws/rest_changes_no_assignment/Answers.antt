@@ -1,5 +1,4 @@
-use Rattle.hn_assign.specs.declared.assigned.Assigned.{Assigned}
-use Rattle.hn_assign.specs.Pair.{assigned_pair, IsWished}
+use Rattle.hn_assign.proofs.Names.{Assigned, assigned_pair, IsWished}
 use Rattle.hn_assign.proofs.KeptFacts.{all_each}
 use Rattle.hn_assign.proofs.Rests.{rest_unchanged}
 use Rattle.hn_assign.proofs.laws.rest_changes_no_assignment.Goals as goal

@@ -1,8 +1,5 @@
-use Rattle.std.proofs.Common.{◌≡◌, List, ◌++◌, ◌∷◌, [], take, sym, subst, ◌+◌}
-use Rattle.std.proofs.lemmas.List.{take_all}
-use Rattle.hn_assign.specs.declared.assigned.Advertised.{Advertised}
-use Rattle.hn_assign.specs.Best.{IsBestIfAny}
-use Rattle.hn_base.proofs.FrontOfList.{front_more}
+use Rattle.hn_base.proofs.Names.{◌≡◌, List, ◌++◌, ◌∷◌, [], take, sym, subst, ◌+◌, take_all}
+use Rattle.hn_assign.proofs.Names.{Advertised, IsBestIfAny, front_more}
 use Rattle.hn_assign.proofs.Bests.{best_passed, best_candidate}
 use Rattle.hn_assign.proofs.precedence.best.Goals as goal
 use Rattle.hn_assign.proofs.precedence.best.Goals.{then-is_eligible, else-is_eligible}

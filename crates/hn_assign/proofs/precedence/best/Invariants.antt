@@ -1,5 +1,5 @@
-use Rattle.std.proofs.Common.{take}
-use Rattle.hn_assign.specs.Best.{IsBestIfAny}
+use Rattle.hn_base.proofs.Names.{take}
+use Rattle.hn_assign.proofs.Names.{IsBestIfAny}
 use Rattle.hn_assign.proofs.precedence.best.Given as goal
 
 abbrev pub invariant-loop-a : goal.invariant-loop-a

@@ -1,8 +1,5 @@
-use Rattle.std.proofs.Common.{◌≡◌, take, Contains, ⊎_elim, sym, subst}
-use Rattle.hn_base.specs.Key.{IsAbove}
-use Rattle.hn_base.specs.Prefix.{Overlaps}
-use Rattle.hn_assign.specs.declared.assigned.Advertised.{Advertised}
-use Rattle.hn_assign.specs.Advertised.{IsAdvertisedOnLink, key_of}
+use Rattle.hn_base.proofs.Names.{◌≡◌, take, Contains, ⊎_elim, sym, subst, IsAbove, Overlaps}
+use Rattle.hn_assign.proofs.Names.{Advertised, IsAdvertisedOnLink, key_of}
 use Rattle.hn_assign.proofs.Fronts.{front_cases}
 use Rattle.hn_assign.proofs.precedence.valid.Goals as goal
 

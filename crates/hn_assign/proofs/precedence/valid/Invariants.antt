@@ -1,8 +1,5 @@
-use Rattle.std.proofs.Common.{take, Contains}
-use Rattle.hn_base.specs.Key.{IsAbove}
-use Rattle.hn_base.specs.Prefix.{Overlaps}
-use Rattle.hn_assign.specs.declared.assigned.Advertised.{Advertised}
-use Rattle.hn_assign.specs.Advertised.{IsAdvertisedOnLink}
+use Rattle.hn_base.proofs.Names.{take, Contains, IsAbove, Overlaps}
+use Rattle.hn_assign.proofs.Names.{Advertised, IsAdvertisedOnLink}
 use Rattle.hn_assign.proofs.precedence.valid.Given as goal
 
 abbrev pub invariant-loop-a : goal.invariant-loop-a

@@ -1,8 +1,6 @@
-use Rattle.std.proofs.Common.{◌↔◌, IsTrue, Option, None, Some, false, not, sym, subst}
-use Rattle.hn_assign.specs.declared.assigned.Advertised.{Advertised}
-use Rattle.hn_assign.specs.declared.assigned.Assigned.{Assigned}
-use Rattle.hn_assign.specs.Rest.{RestsWith}
-use Rattle.hn_assign.specs.Scene.{plain_scene, IsBestFor}
+use Rattle.hn_base.proofs.Names.{◌↔◌, IsTrue, Option, None, Some, false, not, sym, subst}
+use Rattle.hn_assign.proofs.Names.{Advertised, Assigned, RestsWith, IsBestFor}
+use Rattle.hn_assign.specs.Scene.{plain_scene}
 use Rattle.hn_assign.proofs.PairRests.{idle, not_idle, alone, beside}
 use Rattle.hn_assign.proofs.rest.is_at_rest.Goals as goal
 

@@ -1,4 +1,4 @@
-use Rattle.hn_data.specs.View.{plain_view}
+use Rattle.hn_assign.proofs.Names.{plain_view}
 use Rattle.hn_assign.proofs.KeptFacts.{inside_stable, past_stable, priority_stable, subroutine_keeps}
 use Rattle.hn_assign.proofs.subroutines.subroutine.Goals as goal
 

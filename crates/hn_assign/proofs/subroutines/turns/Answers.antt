@@ -1,9 +1,5 @@
-use Rattle.std.proofs.Common.{List, sym, subst, take}
-use Rattle.hn_data.specs.View.{plain_view}
-use Rattle.hn_assign.specs.declared.assigned.Wish.{Wish}
-use Rattle.hn_assign.specs.Gathered.{AreAdvertised}
-use Rattle.hn_assign.specs.Subroutine.{AreSteps}
-use Rattle.hn_base.proofs.FrontOfList.{front_more}
+use Rattle.hn_base.proofs.Names.{List, sym, subst, take}
+use Rattle.hn_assign.proofs.Names.{plain_view, Wish, AreAdvertised, AreSteps, front_more}
 use Rattle.hn_assign.proofs.MoreSteps.{steps_more, took_more}
 use Rattle.hn_assign.proofs.subroutines.turns.Goals as goal
 use Rattle.hn_assign.proofs.subroutines.turns.Goals.{then-branch+in_ok-known-2, else-branch}

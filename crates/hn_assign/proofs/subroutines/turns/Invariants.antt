@@ -1,8 +1,5 @@
-use Rattle.std.proofs.Common.{take}
-use Rattle.hn_data.specs.View.{plain_view}
-use Rattle.hn_base.specs.Words.{Took}
-use Rattle.hn_assign.specs.Gathered.{AreAdvertised}
-use Rattle.hn_assign.specs.Subroutine.{AreSteps}
+use Rattle.hn_base.proofs.Names.{take, Took}
+use Rattle.hn_assign.proofs.Names.{plain_view, AreAdvertised, AreSteps}
 use Rattle.hn_assign.proofs.subroutines.turns.Given as goal
 
 abbrev pub invariant-loop-wish : goal.invariant-loop-wish

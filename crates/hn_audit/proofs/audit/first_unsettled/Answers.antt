@@ -1,10 +1,5 @@
-use Rattle.std.proofs.Common.{◌≡◌, ◌∙◌, None, Some, Option, List, filter, inl, inr, ap, subst}
-use Rattle.hn_base.specs.declared.ids.NodeId.{NodeId}
-use Rattle.hn_world.specs.declared.member.Member.{Member}
-use Rattle.hn_audit.specs.declared.witness.Unsettled.{Unsettled}
-use Rattle.hn_audit.specs.First.{OrElse}
-use Rattle.hn_audit.specs.FirstWitness.{FindsAlike, FindsKnown, FindsOnLinks}
-use Rattle.hn_audit.specs.Set.{PlainSpot, is_in_set, members_of, plain_spots, set_of, spots_in}
+use Rattle.hn_base.proofs.Names.{◌≡◌, ◌∙◌, None, Some, Option, List, filter, inl, inr, ap, subst}
+use Rattle.hn_audit.proofs.Names.{NodeId, Member, Unsettled, OrElse, FindsAlike, FindsKnown, FindsOnLinks, PlainSpot, is_in_set, members_of, plain_spots, set_of, spots_in}
 use Rattle.hn_audit.proofs.Searching.{or_else}
 use Rattle.hn_audit.proofs.audit.first_unsettled.Goals as goal
 

@@ -1,5 +1,5 @@
-use Rattle.std.proofs.Common.{rules, ◌≡◌, ◌≤◌, length, refl, arith}
-use borrow.Author.Tests.{tests}
+use Rattle.hn_base.proofs.Names.{rules, ◌≡◌, ◌≤◌, length, refl, arith}
+use Rattle.hn_audit.proofs.Names.{tests}
 use Rattle.hn_audit.proofs.EqualInPlace.{same_when}
 use Rattle.hn_audit.proofs.knowing.are_same.Goals as goal
 

@@ -1,5 +1,5 @@
-use Rattle.std.proofs.Common.{ℕ, ◌<◌}
-use Rattle.hn_audit.specs.Set.{AreSameAt}
+use Rattle.hn_base.proofs.Names.{ℕ, ◌<◌}
+use Rattle.hn_audit.proofs.Names.{AreSameAt}
 use Rattle.hn_audit.proofs.knowing.are_same.Given as goal
 
 abbrev pub invariant-loop-place : goal.invariant-loop-place

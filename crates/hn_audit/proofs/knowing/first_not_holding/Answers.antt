@@ -1,10 +1,5 @@
-use Rattle.std.proofs.Common.{None, Option, arith}
-use Rattle.std.specs.Borrow.{Bor}
-use Rattle.hn_world.specs.declared.member.Member.{Member}
-use Rattle.hn_audit.specs.declared.witness.Unsettled.{Unsettled}
-use Rattle.hn_audit.specs.First.{IsFirstFound}
-use Rattle.hn_audit.specs.FirstWitness.{FindsHeld}
-use Rattle.hn_audit.specs.Set.{members_of}
+use Rattle.hn_base.proofs.Names.{None, Option, arith, Bor}
+use Rattle.hn_audit.proofs.Names.{Member, Unsettled, IsFirstFound, FindsHeld, members_of}
 use Rattle.hn_audit.proofs.Searching.{member_found, no_member_found, none_more}
 use Rattle.hn_audit.proofs.knowing.first_not_holding.Goals as goal
 

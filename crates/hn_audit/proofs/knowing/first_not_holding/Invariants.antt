@@ -1,7 +1,5 @@
-use Rattle.std.proofs.Common.{None, All, take}
-use Rattle.hn_audit.specs.First.{IsFirstFound}
-use Rattle.hn_audit.specs.FirstWitness.{FindsHeld}
-use Rattle.hn_audit.specs.Set.{members_of}
+use Rattle.hn_base.proofs.Names.{None, take}
+use Rattle.hn_audit.proofs.Names.{All, IsFirstFound, FindsHeld, members_of}
 use Rattle.hn_audit.proofs.knowing.first_not_holding.Given as goal
 
 abbrev pub invariant-loop-s : goal.invariant-loop-s

@@ -1,8 +1,5 @@
-use Rattle.std.proofs.Common.{rules, ◌≡◌, ◌≢◌, IsTrue, None, false, refl, sym, ◌∙◌, arith}
-use Rattle.std.specs.Borrow.{Bor}
-use Rattle.std.proofs.lemmas.Bool.{false≢true}
-use Rattle.hn_world.specs.declared.member.Member.{Member}
-use Rattle.hn_audit.specs.FirstWitness.{FindsReach}
+use Rattle.hn_base.proofs.Names.{rules, ◌≡◌, ◌≢◌, IsTrue, None, false, refl, sym, ◌∙◌, arith, Bor, false≢true}
+use Rattle.hn_audit.proofs.Names.{Member, FindsReach}
 use Rattle.hn_audit.proofs.Searching.{member_found, no_member_found, none_more}
 use Rattle.hn_audit.proofs.knowing.first_of_other_reach.Goals as goal
 

@@ -1,5 +1,5 @@
-use Rattle.std.proofs.Common.{None, All, take}
-use Rattle.hn_audit.specs.FirstWitness.{FindsReach}
+use Rattle.hn_base.proofs.Names.{None, take}
+use Rattle.hn_audit.proofs.Names.{All, FindsReach}
 use Rattle.hn_audit.proofs.knowing.first_of_other_reach.Given as goal
 
 abbrev pub invariant-loop-s : goal.invariant-loop-s

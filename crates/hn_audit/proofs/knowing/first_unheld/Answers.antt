@@ -1,9 +1,5 @@
-use Rattle.std.proofs.Common.{rules, ◌≡◌, ◌≢◌, ◌∙◌, IsTrue, None, false, sym, arith}
-use Rattle.std.specs.Borrow.{Bor}
-use Rattle.std.proofs.lemmas.Bool.{false≢true}
-use Rattle.hn_world.specs.declared.member.Member.{Member}
-use Rattle.hn_audit.specs.FirstWitness.{FindsHeld}
-use Rattle.hn_audit.specs.Settled.{HoldsState}
+use Rattle.hn_base.proofs.Names.{rules, ◌≡◌, ◌≢◌, ◌∙◌, IsTrue, None, false, sym, arith, Bor, false≢true}
+use Rattle.hn_audit.proofs.Names.{Member, FindsHeld, HoldsState}
 use Rattle.hn_audit.proofs.Searching.{member_found, no_member_found, none_more}
 use Rattle.hn_audit.proofs.knowing.first_unheld.Goals as goal
 

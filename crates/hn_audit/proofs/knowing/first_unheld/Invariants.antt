@@ -1,5 +1,5 @@
-use Rattle.std.proofs.Common.{None, All, take}
-use Rattle.hn_audit.specs.FirstWitness.{FindsHeld}
+use Rattle.hn_base.proofs.Names.{None, take}
+use Rattle.hn_audit.proofs.Names.{All, FindsHeld}
 use Rattle.hn_audit.proofs.knowing.first_unheld.Given as goal
 
 abbrev pub invariant-loop-u : goal.invariant-loop-u

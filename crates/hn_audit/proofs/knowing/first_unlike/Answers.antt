@@ -1,9 +1,5 @@
-use Rattle.std.proofs.Common.{Option, inl, inr}
-use Rattle.std.proofs.lemmas.Result.{IfOk-weaker}
-use Rattle.hn_audit.specs.declared.witness.Unsettled.{Unsettled}
-use Rattle.hn_audit.specs.First.{IsFirstFound, OrElse}
-use Rattle.hn_audit.specs.FirstWitness.{FindsHeld, FindsReach, FindsUsed}
-use Rattle.hn_audit.specs.Set.{members_of}
+use Rattle.hn_base.proofs.Names.{Option, inl, inr, IfOk-weaker}
+use Rattle.hn_audit.proofs.Names.{Unsettled, IsFirstFound, OrElse, FindsHeld, FindsReach, FindsUsed, members_of}
 use Rattle.hn_audit.proofs.Searching.{or_else}
 use Rattle.hn_audit.proofs.knowing.first_unlike.Goals as goal
 

@@ -1,15 +1,5 @@
-use Rattle.std.proofs.Common.{◌≡◌, ◌<◌, List, Option, Some, None, All, length, get_or, arith}
-use Rattle.std.specs.Borrow.{Bor}
-use Rattle.std.proofs.lemmas.List.Elements.{All-contains, All-nil}
-use Rattle.std.proofs.lemmas.Result.{IfOk-weaker}
-use Rattle.hn_base.proofs.Elements.{all_of}
-use Rattle.hn_deleg.specs.Laws.{UsableIsUnique}
-use Rattle.hn_world.specs.declared.member.Member.{Member}
-use Rattle.hn_audit.specs.declared.witness.Unsettled.{Unsettled}
-use Rattle.hn_audit.specs.First.{IsFirstFound}
-use Rattle.hn_audit.specs.FirstWitness.{FindsUsed}
-use Rattle.hn_audit.specs.Set.{members_of}
-use Rattle.hn_audit.specs.Settled.{UseSame}
+use Rattle.hn_base.proofs.Names.{◌≡◌, ◌<◌, List, Option, Some, None, length, get_or, arith, Bor, All-contains, All-nil, IfOk-weaker}
+use Rattle.hn_audit.proofs.Names.{All, all_of, UsableIsUnique, Member, Unsettled, IsFirstFound, FindsUsed, members_of, UseSame}
 use Rattle.hn_audit.proofs.EqualInPlace.{use_same_too}
 use Rattle.hn_audit.proofs.Searching.{member_found}
 use Rattle.hn_audit.proofs.knowing.first_using_others.Goals as goal

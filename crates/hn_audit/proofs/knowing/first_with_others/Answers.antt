@@ -1,11 +1,5 @@
-use Rattle.std.proofs.Common.{rules, ◌≡◌, ◌∙◌, IsTrue, false, refl, sym, subst, arith}
-use Rattle.std.specs.Borrow.{Bor}
-use Rattle.std.proofs.lemmas.Bool.{false≢true}
-use Rattle.hn_deleg.specs.Used.{AreUsable}
-use Rattle.hn_rules.specs.Seen.{seen_by}
-use Rattle.hn_world.specs.declared.member.Member.{Member}
-use Rattle.hn_audit.specs.FirstWitness.{FindsUsed}
-use Rattle.hn_audit.specs.Settled.{UseSame}
+use Rattle.hn_base.proofs.Names.{rules, ◌≡◌, ◌∙◌, IsTrue, false, refl, sym, subst, arith, Bor, false≢true}
+use Rattle.hn_audit.proofs.Names.{AreUsable, seen_by, Member, FindsUsed, UseSame}
 use Rattle.hn_audit.proofs.Searching.{member_found, no_member_found, none_more}
 use Rattle.hn_audit.proofs.knowing.first_with_others.Goals as goal
 

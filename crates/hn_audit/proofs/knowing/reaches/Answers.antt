@@ -1,6 +1,5 @@
-use Rattle.std.proofs.Common.{◌≡◌, ◌↔◌, IsTrue, List, subst}
-use Rattle.std.proofs.lemmas.Slice.Eq.{slice_eq-Decides}
-use Rattle.hn_base.specs.declared.ids.NodeId.{NodeId}
+use Rattle.hn_base.proofs.Names.{◌≡◌, ◌↔◌, IsTrue, List, subst, slice_eq-Decides}
+use Rattle.hn_audit.proofs.Names.{NodeId}
 use Rattle.hn_base.proofs.Keys.{node_decided}
 use Rattle.hn_audit.proofs.knowing.reaches.Goals as goal
 

@@ -1,6 +1,5 @@
-use Rattle.std.proofs.Common.{subst, sym}
-use Rattle.hn_deleg.specs.Used.{AreUsable}
-use Rattle.hn_rules.specs.Seen.{seen_by}
+use Rattle.hn_base.proofs.Names.{subst, sym}
+use Rattle.hn_audit.proofs.Names.{AreUsable, seen_by}
 use Rattle.hn_audit.proofs.EqualInPlace.{use_these}
 use Rattle.hn_audit.proofs.knowing.uses_these.Goals as goal
 

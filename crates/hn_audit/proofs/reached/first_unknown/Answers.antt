@@ -1,6 +1,5 @@
-use Rattle.std.proofs.Common.{None, refl, arith}
-use Rattle.hn_base.specs.declared.ids.NodeId.{NodeId}
-use Rattle.hn_audit.specs.FirstWitness.{FindsId}
+use Rattle.hn_base.proofs.Names.{None, refl, arith}
+use Rattle.hn_audit.proofs.Names.{NodeId, FindsId}
 use Rattle.hn_audit.proofs.Searching.{found_nowhere, none_more}
 use Rattle.hn_audit.proofs.reached.first_unknown.Goals as goal
 

@@ -1,5 +1,5 @@
-use Rattle.std.proofs.Common.{All, take, None}
-use Rattle.hn_audit.specs.FirstWitness.{FindsId}
+use Rattle.hn_base.proofs.Names.{take, None}
+use Rattle.hn_audit.proofs.Names.{All, FindsId}
 use Rattle.hn_audit.proofs.reached.first_unknown.Given as goal
 
 abbrev pub invariant-loop-id : goal.invariant-loop-id

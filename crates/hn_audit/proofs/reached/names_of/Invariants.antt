@@ -1,5 +1,5 @@
-use Rattle.std.proofs.Common.{◌≡◌, map, take}
-use Rattle.hn_audit.specs.Set.{members_of}
+use Rattle.hn_base.proofs.Names.{◌≡◌, map, take}
+use Rattle.hn_audit.proofs.Names.{members_of}
 use Rattle.hn_audit.proofs.reached.names_of.Given as goal
 
 abbrev pub invariant-loop-member : goal.invariant-loop-member

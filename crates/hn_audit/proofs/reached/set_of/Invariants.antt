@@ -1,5 +1,5 @@
-use Rattle.std.proofs.Common.{◌≡◌, filter, take}
-use Rattle.hn_audit.specs.Set.{is_in_set, members_of}
+use Rattle.hn_base.proofs.Names.{◌≡◌, filter, take}
+use Rattle.hn_audit.proofs.Names.{is_in_set, members_of}
 use Rattle.hn_audit.proofs.reached.set_of.Given as goal
 
 abbrev pub invariant-loop-member : goal.invariant-loop-member

@@ -1,12 +1,5 @@
-use Rattle.std.proofs.Common.{List, sym, subst}
-use Rattle.hn_base.specs.Ascending.{HasAt}
-use Rattle.hn_base.specs.declared.ids.NodeId.{NodeId}
-use Rattle.hn_base.proofs.AtKey.{has_one}
-use Rattle.hn_assign.specs.declared.assigned.Assigned.{Assigned}
-use Rattle.hn_assign.specs.declared.held.Held.{Held}
-use Rattle.hn_assign.specs.declared.pair.Pair.{Pair}
-use Rattle.hn_assign.specs.Pair.{assigned_pair, pair_cmp, wish_pair}
-use Rattle.hn_assign.specs.Rest.{IsAtRest}
+use Rattle.hn_base.proofs.Names.{List, sym, subst, HasAt}
+use Rattle.hn_audit.proofs.Names.{NodeId, has_one, Assigned, Held, Pair, assigned_pair, pair_cmp, wish_pair, IsAtRest}
 use Rattle.hn_audit.proofs.resting.act_at.Goals as goal
 
 pub returns-then-is_at_rest : goal.returns-then-is_at_rest

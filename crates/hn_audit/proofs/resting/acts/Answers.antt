@@ -1,10 +1,5 @@
-use Rattle.std.proofs.Common.{List, sym, subst}
-use Rattle.hn_base.specs.Ascending.{HaveSame}
-use Rattle.hn_assign.specs.declared.assigned.Advertised.{Advertised}
-use Rattle.hn_assign.specs.declared.assigned.Wish.{Wish}
-use Rattle.hn_deleg.specs.Used.{AreUsable}
-use Rattle.hn_rules.specs.Seen.{seen_by}
-use Rattle.hn_audit.specs.FirstWitness.{FindsAct}
+use Rattle.hn_base.proofs.Names.{List, sym, subst, HaveSame}
+use Rattle.hn_audit.proofs.Names.{Advertised, Wish, AreUsable, seen_by, FindsAct}
 use Rattle.hn_audit.proofs.RestIsOne.{advertised_same}
 use Rattle.hn_audit.proofs.resting.acts.Goals as goal
 

@@ -1,7 +1,5 @@
-use Rattle.std.proofs.Common.{Option, inl}
-use Rattle.hn_audit.specs.declared.witness.Unquiet.{Unquiet}
-use Rattle.hn_audit.specs.First.{IsFirstFound}
-use Rattle.hn_audit.specs.FirstWitness.{FindsRestless, FindsUnasked}
+use Rattle.hn_base.proofs.Names.{Option, inl}
+use Rattle.hn_audit.proofs.Names.{Unquiet, IsFirstFound, FindsRestless, FindsUnasked}
 use Rattle.hn_audit.proofs.Searching.{or_else}
 use Rattle.hn_audit.proofs.resting.first_act.Goals as goal
 

@@ -1,7 +1,5 @@
-use Rattle.std.proofs.Common.{None, subst, arith}
-use Rattle.std.specs.Borrow.{Bor}
-use Rattle.hn_world.specs.declared.member.Member.{Member}
-use Rattle.hn_audit.specs.FirstWitness.{FindsOfRouter}
+use Rattle.hn_base.proofs.Names.{None, subst, arith, Bor}
+use Rattle.hn_audit.proofs.Names.{Member, FindsOfRouter}
 use Rattle.hn_audit.proofs.Searching.{member_found, no_member_found, none_more}
 use Rattle.hn_audit.proofs.resting.first_acting.Goals as goal
 

@@ -1,5 +1,5 @@
-use Rattle.std.proofs.Common.{None, All, take}
-use Rattle.hn_audit.specs.FirstWitness.{FindsOfRouter}
+use Rattle.hn_base.proofs.Names.{None, take}
+use Rattle.hn_audit.proofs.Names.{All, FindsOfRouter}
 use Rattle.hn_audit.proofs.resting.first_acting.Given as goal
 
 abbrev pub invariant-loop-s : goal.invariant-loop-s

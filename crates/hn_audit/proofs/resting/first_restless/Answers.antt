@@ -1,6 +1,5 @@
-use Rattle.std.proofs.Common.{None, arith}
-use Rattle.hn_assign.specs.declared.assigned.Wish.{Wish}
-use Rattle.hn_audit.specs.FirstWitness.{FindsRestless}
+use Rattle.hn_base.proofs.Names.{None, arith}
+use Rattle.hn_audit.proofs.Names.{Wish, FindsRestless}
 use Rattle.hn_audit.proofs.Searching.{found_nowhere, none_more}
 use Rattle.hn_audit.proofs.resting.first_restless.Goals as goal
 

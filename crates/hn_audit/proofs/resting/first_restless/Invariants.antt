@@ -1,5 +1,5 @@
-use Rattle.std.proofs.Common.{None, All, take}
-use Rattle.hn_audit.specs.FirstWitness.{FindsRestless}
+use Rattle.hn_base.proofs.Names.{None, take}
+use Rattle.hn_audit.proofs.Names.{All, FindsRestless}
 use Rattle.hn_audit.proofs.resting.first_restless.Given as goal
 
 abbrev pub invariant-loop-wish : goal.invariant-loop-wish

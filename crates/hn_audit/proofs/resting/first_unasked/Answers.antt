@@ -1,8 +1,5 @@
-use Rattle.std.proofs.Common.{rules, ◌≡◌, ◌∙◌, IsTrue, None, false, refl, sym, arith}
-use Rattle.std.proofs.lemmas.Bool.{false≢true}
-use Rattle.hn_assign.specs.declared.assigned.Assigned.{Assigned}
-use Rattle.hn_assign.specs.Pair.{IsWished, assigned_pair}
-use Rattle.hn_audit.specs.FirstWitness.{FindsUnasked}
+use Rattle.hn_base.proofs.Names.{rules, ◌≡◌, ◌∙◌, IsTrue, None, false, refl, sym, arith, false≢true}
+use Rattle.hn_audit.proofs.Names.{Assigned, IsWished, assigned_pair, FindsUnasked}
 use Rattle.hn_audit.proofs.Searching.{found_here_in, found_nowhere_in, none_more}
 use Rattle.hn_audit.proofs.resting.first_unasked.Goals as goal
 

@@ -1,5 +1,5 @@
-use Rattle.std.proofs.Common.{◌≡◌, None, All, take}
-use Rattle.hn_audit.specs.FirstWitness.{FindsUnasked}
+use Rattle.hn_base.proofs.Names.{◌≡◌, None, take}
+use Rattle.hn_audit.proofs.Names.{All, FindsUnasked}
 use Rattle.hn_audit.proofs.resting.first_unasked.Given as goal
 
 abbrev pub invariant-loop-c : goal.invariant-loop-c

@@ -1,10 +1,6 @@
-use Rattle.std.proofs.Common.{rules, ◌≡◌, ◌↔◌, ◌<◌, ℕ, IsTrue, List, Contains, Some, Ok, Err, Result, MatchResult, is_ok, length, map, slice_get, refl, sym, subst}
-use Rattle.std.proofs.lemmas.List.Sorted.{answers_always}
-use Rattle.hn_base.proofs.AscendingLists.{Contains-map, sorted_parts}
-use Rattle.hn_base.proofs.PartsAtPlaces.{contains_at, found_by, part_at}
-use Rattle.hn_assign.specs.declared.assigned.Wish.{Wish}
-use Rattle.hn_assign.specs.declared.pair.Pair.{Pair}
-use Rattle.hn_assign.specs.Pair.{IsWished, assigned_pair, pair_cmp, wish_pair}
+use Rattle.hn_base.proofs.Names.{rules, ◌≡◌, ◌↔◌, ◌<◌, ℕ, IsTrue, List, Contains, Some, Ok, Err, Result, MatchResult, is_ok, length, map, slice_get, refl, sym, subst, answers_always}
+use Rattle.hn_audit.proofs.Names.{Contains-map, sorted_parts, contains_at, part_at, Wish, Pair, IsWished, assigned_pair, pair_cmp, wish_pair}
+use Rattle.hn_base.proofs.PartsAtPlaces.{found_by}
 use Rattle.hn_audit.proofs.resting.is_asked.Goals as goal
 
 -- where the pairs of wishes have a pair, there is a wish for it

@@ -1,7 +1,5 @@
-use Rattle.std.proofs.Common.{◌∙◌, ap, refl, sym}
-use Rattle.std.specs.Option.{option_map}
-use Rattle.std.proofs.lemmas.List.{map-append}
-use Rattle.hn_audit.specs.Set.{plain_spot, plain_spots, spot_at}
+use Rattle.hn_base.proofs.Names.{◌∙◌, ap, refl, sym, option_map, map-append}
+use Rattle.hn_audit.proofs.Names.{plain_spot, plain_spots, spot_at}
 use Rattle.hn_audit.proofs.Spotting.{given_more, passed_more}
 use Rattle.hn_audit.proofs.spots.add_spots.Goals.{in-Some+in_ok-push, in_default}
 use Rattle.hn_audit.proofs.spots.add_spots.Goals as goal

@@ -1,6 +1,5 @@
-use Rattle.std.proofs.Common.{◌≡◌, ◌++◌, take}
-use Rattle.std.specs.List.{filter_map}
-use Rattle.hn_audit.specs.Set.{plain_spots, spot_at}
+use Rattle.hn_base.proofs.Names.{◌≡◌, ◌++◌, take, filter_map}
+use Rattle.hn_audit.proofs.Names.{plain_spots, spot_at}
 use Rattle.hn_audit.proofs.spots.add_spots.Given as goal
 
 abbrev pub invariant-loop-a : goal.invariant-loop-a

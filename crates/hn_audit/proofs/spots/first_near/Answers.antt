@@ -1,7 +1,5 @@
-use Rattle.std.proofs.Common.{None, refl, arith}
-use Rattle.hn_world.specs.declared.member.Attachment.{Attachment}
-use Rattle.hn_audit.specs.FirstWitness.{FindsNear}
-use Rattle.hn_audit.specs.Set.{plain_spots}
+use Rattle.hn_base.proofs.Names.{None, refl, arith}
+use Rattle.hn_audit.proofs.Names.{Attachment, FindsNear, plain_spots}
 use Rattle.hn_audit.proofs.Searching.{found_here_in, found_nowhere_in, none_more}
 use Rattle.hn_audit.proofs.spots.first_near.Goals as goal
 

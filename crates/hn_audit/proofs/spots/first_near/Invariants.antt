@@ -1,6 +1,5 @@
-use Rattle.std.proofs.Common.{◌≡◌, None, All, take}
-use Rattle.hn_audit.specs.FirstWitness.{FindsNear}
-use Rattle.hn_audit.specs.Set.{plain_spots}
+use Rattle.hn_base.proofs.Names.{◌≡◌, None, take}
+use Rattle.hn_audit.proofs.Names.{All, FindsNear, plain_spots}
 use Rattle.hn_audit.proofs.spots.first_near.Given as goal
 
 abbrev pub invariant-loop-a : goal.invariant-loop-a

@@ -1,8 +1,5 @@
-use Rattle.std.proofs.Common.{Option, inl, inr}
-use Rattle.hn_audit.specs.declared.witness.Unsettled.{Unsettled}
-use Rattle.hn_audit.specs.First.{IsFirstFound, OrElse}
-use Rattle.hn_audit.specs.FirstWitness.{FindsOfPeers, FindsStranger, FindsUnseen}
-use Rattle.hn_audit.specs.Set.{members_of, plain_spots}
+use Rattle.hn_base.proofs.Names.{Option, inl, inr}
+use Rattle.hn_audit.proofs.Names.{Unsettled, IsFirstFound, OrElse, FindsOfPeers, FindsStranger, FindsUnseen, members_of, plain_spots}
 use Rattle.hn_audit.proofs.Searching.{or_else}
 use Rattle.hn_audit.proofs.spots.first_on_links.Goals as goal
 

@@ -1,7 +1,5 @@
-use Rattle.std.proofs.Common.{None, arith}
-use Rattle.hn_world.specs.declared.member.Member.{Member}
-use Rattle.hn_audit.specs.FirstWitness.{FindsStranger}
-use Rattle.hn_audit.specs.Set.{plain_spots}
+use Rattle.hn_base.proofs.Names.{None, arith}
+use Rattle.hn_audit.proofs.Names.{Member, FindsStranger, plain_spots}
 use Rattle.hn_audit.proofs.Searching.{found_here_in, found_nowhere_in, none_more}
 use Rattle.hn_audit.proofs.spots.first_stranger.Goals as goal
 

@@ -1,6 +1,5 @@
-use Rattle.std.proofs.Common.{◌≡◌, None, All, take}
-use Rattle.hn_audit.specs.FirstWitness.{FindsStranger}
-use Rattle.hn_audit.specs.Set.{plain_spots}
+use Rattle.hn_base.proofs.Names.{◌≡◌, None, take}
+use Rattle.hn_audit.proofs.Names.{All, FindsStranger, plain_spots}
 use Rattle.hn_audit.proofs.spots.first_stranger.Given as goal
 
 abbrev pub invariant-loop-m : goal.invariant-loop-m

@@ -1,9 +1,5 @@
-use Rattle.std.proofs.Common.{None, Option, arith}
-use Rattle.hn_audit.specs.declared.spots.Spot.{Spot}
-use Rattle.hn_audit.specs.declared.witness.Unsettled.{Unsettled}
-use Rattle.hn_audit.specs.First.{IsFirstFound}
-use Rattle.hn_audit.specs.FirstWitness.{FindsUnseen}
-use Rattle.hn_audit.specs.Set.{PlainSpot, plain_spot, plain_spots}
+use Rattle.hn_base.proofs.Names.{None, Option, arith}
+use Rattle.hn_audit.proofs.Names.{Spot, Unsettled, IsFirstFound, FindsUnseen, PlainSpot, plain_spot, plain_spots}
 use Rattle.hn_audit.proofs.Searching.{no_spot_found, none_more, spot_found}
 use Rattle.hn_audit.proofs.spots.first_unseen.Goals as goal
 

@@ -1,7 +1,6 @@
-use Rattle.std.proofs.Common.{rules, None, refl, arith}
-use Rattle.hn_audit.specs.declared.spots.Spot.{Spot}
-use Rattle.hn_audit.specs.FirstWitness.{FindsUnseen, IsSeenPair, IsUnseenPair}
-use Rattle.hn_audit.specs.Set.{plain_spot}
+use Rattle.hn_base.proofs.Names.{rules, None, refl, arith}
+use Rattle.hn_audit.proofs.Names.{Spot, FindsUnseen, IsSeenPair, plain_spot}
+use Rattle.hn_audit.specs.FirstWitness.{IsUnseenPair}
 use Rattle.hn_audit.proofs.Searching.{no_spot_found, none_more, spot_found}
 use Rattle.hn_audit.proofs.spots.first_unseen_by.Goals as goal
 

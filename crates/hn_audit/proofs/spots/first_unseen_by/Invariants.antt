@@ -1,6 +1,5 @@
-use Rattle.std.proofs.Common.{None, All, take}
-use Rattle.hn_audit.specs.FirstWitness.{FindsUnseen}
-use Rattle.hn_audit.specs.Set.{plain_spot}
+use Rattle.hn_base.proofs.Names.{None, take}
+use Rattle.hn_audit.proofs.Names.{All, FindsUnseen, plain_spot}
 use Rattle.hn_audit.proofs.spots.first_unseen_by.Given as goal
 
 abbrev pub invariant-loop-b : goal.invariant-loop-b

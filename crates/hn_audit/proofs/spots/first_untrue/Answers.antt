@@ -1,8 +1,5 @@
-use Rattle.std.proofs.Common.{None, arith}
-use Rattle.std.specs.Borrow.{Bor}
-use Rattle.hn_world.specs.declared.member.Member.{Member}
-use Rattle.hn_audit.specs.FirstWitness.{FindsOfPeers}
-use Rattle.hn_audit.specs.Set.{members_of}
+use Rattle.hn_base.proofs.Names.{None, arith, Bor}
+use Rattle.hn_audit.proofs.Names.{Member, FindsOfPeers, members_of}
 use Rattle.hn_audit.proofs.Searching.{member_found, no_member_found, none_more}
 use Rattle.hn_audit.proofs.spots.first_untrue.Goals as goal
 

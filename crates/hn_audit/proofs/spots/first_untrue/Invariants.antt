@@ -1,6 +1,5 @@
-use Rattle.std.proofs.Common.{None, All, take}
-use Rattle.hn_audit.specs.FirstWitness.{FindsOfPeers}
-use Rattle.hn_audit.specs.Set.{members_of}
+use Rattle.hn_base.proofs.Names.{None, take}
+use Rattle.hn_audit.proofs.Names.{All, FindsOfPeers, members_of}
 use Rattle.hn_audit.proofs.spots.first_untrue.Given as goal
 
 abbrev pub invariant-loop-s : goal.invariant-loop-s

@@ -1,7 +1,6 @@
-use Rattle.std.proofs.Common.{rules, None, refl, arith}
-use Rattle.std.specs.Borrow.{Bor}
-use Rattle.hn_world.specs.declared.member.Member.{Member}
-use Rattle.hn_audit.specs.FirstWitness.{FindsUntrue, IsTrueOf, IsUntrueOf}
+use Rattle.hn_base.proofs.Names.{rules, None, refl, arith, Bor}
+use Rattle.hn_audit.proofs.Names.{Member, FindsUntrue, IsTrueOf}
+use Rattle.hn_audit.specs.FirstWitness.{IsUntrueOf}
 use Rattle.hn_audit.proofs.Searching.{member_found, no_member_found, none_more}
 use Rattle.hn_audit.proofs.spots.first_untrue_of.Goals as goal
 

@@ -1,5 +1,5 @@
-use Rattle.std.proofs.Common.{None, All, take}
-use Rattle.hn_audit.specs.FirstWitness.{FindsUntrue}
+use Rattle.hn_base.proofs.Names.{None, take}
+use Rattle.hn_audit.proofs.Names.{All, FindsUntrue}
 use Rattle.hn_audit.proofs.spots.first_untrue_of.Given as goal
 
 abbrev pub invariant-loop-u : goal.invariant-loop-u

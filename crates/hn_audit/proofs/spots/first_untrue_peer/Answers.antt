@@ -1,10 +1,5 @@
-use Rattle.std.proofs.Common.{None, Option, List, ℕ, refl, subst, arith}
-use Rattle.std.proofs.lemmas.List.Elements.{All-nil}
-use Rattle.hn_data.specs.declared.said.PeerLink.{PeerLink}
-use Rattle.hn_audit.specs.declared.witness.Unsettled.{Unsettled}
-use Rattle.hn_audit.specs.First.{IsFirstFound}
-use Rattle.hn_audit.specs.FirstWitness.{AreSaid, FindsUntrue}
-use Rattle.hn_audit.specs.Set.{members_of}
+use Rattle.hn_base.proofs.Names.{None, Option, List, ℕ, refl, subst, arith, All-nil}
+use Rattle.hn_audit.proofs.Names.{PeerLink, Unsettled, IsFirstFound, AreSaid, FindsUntrue, members_of}
 use Rattle.hn_audit.proofs.Searching.{found_here, found_nowhere, none_more}
 use Rattle.hn_audit.proofs.spots.first_untrue_peer.Goals as goal
 

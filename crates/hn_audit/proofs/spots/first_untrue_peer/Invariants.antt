@@ -1,7 +1,5 @@
-use Rattle.std.proofs.Common.{None, All, take}
-use Rattle.hn_audit.specs.First.{IsFirstFound}
-use Rattle.hn_audit.specs.FirstWitness.{FindsUntrue, AreSaid}
-use Rattle.hn_audit.specs.Set.{members_of}
+use Rattle.hn_base.proofs.Names.{None, take}
+use Rattle.hn_audit.proofs.Names.{All, IsFirstFound, FindsUntrue, AreSaid, members_of}
 use Rattle.hn_audit.proofs.spots.first_untrue_peer.Given as goal
 
 abbrev pub invariant-loop-peer : goal.invariant-loop-peer

@@ -1,9 +1,6 @@
-use Rattle.std.proofs.Common.{rules, ◌≡◌, subst, sym}
-use borrow.Author.Tests.{tests}
-use Rattle.std.proofs.lemmas.Iterator.{cases_from_any, YieldsList-from_slice}
-use Rattle.hn_base.proofs.AscendingLists.{Contains-map, Contains-from_map}
-use Rattle.hn_audit.specs.declared.spots.Spot.{Spot}
-use Rattle.hn_audit.specs.Set.{PlainSpot, plain_spot}
+use Rattle.hn_base.proofs.Names.{rules, ◌≡◌, subst, sym, YieldsList-from_slice}
+use Rattle.hn_audit.proofs.Names.{tests, Contains-map, Contains-from_map, Spot, PlainSpot, plain_spot}
+use Rattle.std.proofs.lemmas.Iterator.{cases_from_any}
 use Rattle.hn_audit.proofs.WhatAnyTells.{any_decides}
 use Rattle.hn_audit.proofs.spots.is_one_on.Goals as goal
 

@@ -1,7 +1,6 @@
-use Rattle.std.proofs.Common.{◌≡◌, ◌∙◌, sym, subst}
-use Rattle.std.proofs.lemmas.Bool.{false≢true}
-use Rattle.std.proofs.lemmas.Option.{same_Some}
-use Rattle.hn_audit.specs.Set.{HasOn, plain_spots}
+use Rattle.hn_base.proofs.Names.{◌≡◌, ◌∙◌, sym, subst, false≢true, same_Some}
+use Rattle.hn_audit.proofs.Names.{plain_spots}
+use Rattle.hn_audit.specs.Set.{HasOn}
 use Rattle.hn_audit.proofs.spots.near_link.Goals as goal
 
 pub returns-else-is_one_on : goal.returns-else-is_one_on

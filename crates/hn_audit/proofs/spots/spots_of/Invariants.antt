@@ -1,5 +1,5 @@
-use Rattle.std.proofs.Common.{◌≡◌, take}
-use Rattle.hn_audit.specs.Set.{members_of, plain_spots, spots_in}
+use Rattle.hn_base.proofs.Names.{◌≡◌, take}
+use Rattle.hn_audit.proofs.Names.{members_of, plain_spots, spots_in}
 use Rattle.hn_audit.proofs.spots.spots_of.Given as goal
 
 abbrev pub invariant-loop-member : goal.invariant-loop-member

@@ -1,6 +1,4 @@
-use Rattle.std.proofs.lemmas.List.Filters.{dedup_is}
-use Rattle.std.proofs.lemmas.List.Kept.{IsStrictlySortedBy-dedup}
-use Rattle.std.proofs.lemmas.List.Sorted.{Contains-permutation, IsPermutation-sym}
+use Rattle.hn_base.proofs.Names.{dedup_is, IsStrictlySortedBy-dedup, Contains-permutation, IsPermutation-sym}
 use Rattle.hn_base.proofs.AscendingLists.{dedup_same}
 use Rattle.hn_base.proofs.ascending.sort_to_set.Goals as goal
 

@@ -1,7 +1,6 @@
 -- Hexadecimal digits are ASCII, and so text.
-use Rattle.std.proofs.Common.{◌≡◌, sym, subst}
-use Rattle.std.specs.Str.{IsUtf8}
-use Rattle.hex.specs.Hex.{encode_lower}
+use Rattle.hn_base.proofs.Names.{◌≡◌, sym, subst, IsUtf8}
+use Rattle.hn_base.proofs.Names.{encode_lower}
 use Rattle.hn_base.proofs.HexLemmas.{IsUtf8-encode_lower}
 use Rattle.hn_base.proofs.Results.{ok_where}
 use Rattle.hn_base.proofs.hex_text.write_chunk.Goals as goal

@@ -1,5 +1,6 @@
 -- The digits of a front, and of what follows it, are those of both.
-use Rattle.std.proofs.Common.{◌≡◌, [], ◌++◌, refl, sym, ap, ◌∙◌, append_assoc, take-append-drop}
+use Rattle.hn_base.proofs.Names.{◌≡◌, [], ◌++◌, refl, sym, ap, ◌∙◌, append_assoc}
+use Rattle.hn_base.proofs.Names.{take-append-drop}
 use Rattle.hn_base.proofs.HexLemmas.{digits_none, digits_more}
 use Rattle.hn_base.proofs.hex_text.write_digits.Goals as goal
 

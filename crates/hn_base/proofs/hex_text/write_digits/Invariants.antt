@@ -1,6 +1,5 @@
-use Rattle.std.proofs.Common.{◌≡◌, List, ℕ, ◌++◌, length}
-use Rattle.std.specs.Fmt.{HasWritten, IsPlainFormatter}
-use Rattle.hex.specs.Hex.{encode_lower}
+use Rattle.hn_base.proofs.Names.{◌≡◌, List, ℕ, ◌++◌, length, HasWritten, IsPlainFormatter}
+use Rattle.hn_base.proofs.Names.{encode_lower}
 use Rattle.hn_base.proofs.hex_text.write_digits.Given as goal
 
 -- the digits of the bytes before the rest are written

@@ -1,7 +1,5 @@
-use Rattle.std.proofs.Common.{◌≡◌, ◌<◌, ◌≤◌, ◌+◌, ◌*◌, ◌^◌, length, take, get_or, ap, sym, subst, ◌∙◌, arith}
-use Rattle.std.specs.Char.{digit_value}
+use Rattle.hn_base.proofs.Names.{◌≡◌, ◌<◌, ◌≤◌, ◌+◌, ◌*◌, ◌^◌, length, take, get_or, ap, sym, subst, ◌∙◌, arith, digit_value, length-take}
 use Rattle.std.proofs.lemmas.Int.Digits.{digits_more, digits_value_more}
-use Rattle.std.proofs.lemmas.List.{length-take}
 use Rattle.hn_base.proofs.NumeralLemmas.{step_fits, not_numeral, IfNone_since}
 use Rattle.hn_base.proofs.numeral.number.Goals as goal
 

@@ -1,5 +1,4 @@
-use Rattle.std.proofs.Common.{◌≡◌, take}
-use Rattle.std.specs.Str.Parse.{AllDigits, digits_value}
+use Rattle.hn_base.proofs.Names.{◌≡◌, take, AllDigits, digits_value}
 use Rattle.hn_base.proofs.numeral.number.Given as goal
 
 abbrev pub invariant-loop-byte : goal.invariant-loop-byte

@@ -1,5 +1,4 @@
-use Rattle.std.proofs.Common.{take}
-use Rattle.hn_base.specs.Splits.{Lacks}
+use Rattle.hn_base.proofs.Names.{take, Lacks}
 use Rattle.hn_base.proofs.split.split_once.Given as goal
 
 abbrev pub invariant-loop-i : goal.invariant-loop-i

@@ -1,5 +1,5 @@
-use Rattle.std.proofs.Common.{◌==◌, ◌∙◌, rules, tests}
-use Rattle.std.proofs.lemmas.Iterator.{YieldsList-from_slice}
+use Rattle.hn_base.proofs.Names.{◌∙◌, rules, tests, YieldsList-from_slice}
+use Rattle.hn_data.proofs.Names.{◌==◌}
 use Rattle.std.proofs.lemmas.Iterator.Search.{find_from_yields_List}
 use Rattle.hn_data.proofs.asked.first_for.Goals as goal
 

@@ -1,4 +1,4 @@
-use Rattle.std.proofs.Common.{rules}
+use Rattle.hn_base.proofs.Names.{rules}
 use Rattle.hn_data.proofs.FirstSaid.{find_is_first}
 use Rattle.hn_data.proofs.asked.interval_at.Goals as goal
 

@@ -1,7 +1,6 @@
-use Rattle.std.proofs.Common.{◌≡◌, List, ap, ◌∙◌, rules}
-use Rattle.std.specs.List.{filter_map}
-use Rattle.hn_typed.specs.Item.{PlainItem}
-use Rattle.hn_data.specs.Said.{interval_of, keep_alive_of}
+use Rattle.hn_base.proofs.Names.{◌≡◌, List, ap, ◌∙◌, rules, filter_map}
+use Rattle.hn_data.proofs.Names.{PlainItem, interval_of}
+use Rattle.hn_data.specs.Said.{keep_alive_of}
 use Rattle.hn_data.proofs.asked.keep_alive.Goals as goal
 
 pub returns-clause-each : goal.returns-clause-each

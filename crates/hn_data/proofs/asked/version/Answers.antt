@@ -1,6 +1,5 @@
-use Rattle.std.proofs.Common.{ap, ◌∙◌}
-use Rattle.hn_typed.specs.View.{plain_caps}
-use Rattle.hn_data.specs.Said.{version_of}
+use Rattle.hn_base.proofs.Names.{ap, ◌∙◌}
+use Rattle.hn_data.proofs.Names.{plain_caps, version_of}
 use Rattle.hn_data.proofs.FirstSaid.{version_found}
 use Rattle.hn_data.proofs.asked.version.Goals as goal
 

@@ -1,10 +1,5 @@
-use Rattle.std.proofs.Common.{List, [], ◌∷◌, ◌++◌, option_to_list, sym, ap, ◌∙◌}
-use Rattle.std.proofs.lemmas.Result.{on_ok_weaker}
-use Rattle.std.proofs.lemmas.List.{append-nil}
-use Rattle.hn_base.proofs.PartsAtPlaces.{filter_map-push}
-use Rattle.hn_tlv.specs.View.{plain}
-use Rattle.hn_typed.specs.View.{plain_item}
-use Rattle.hn_data.specs.Delegations.{delegation_of}
+use Rattle.hn_base.proofs.Names.{List, [], ◌∷◌, ◌++◌, option_to_list, sym, ap, ◌∙◌, on_ok_weaker, append-nil}
+use Rattle.hn_data.proofs.Names.{filter_map-push, plain, plain_item, delegation_of}
 use Rattle.hn_data.proofs.OneMoreItem.{reads_one, reads_none}
 use Rattle.hn_data.proofs.delegations.add_delegation.Goals as goal
 

@@ -1,4 +1,4 @@
-use Rattle.std.proofs.lemmas.Result.{on_ok_weaker}
+use Rattle.hn_base.proofs.Names.{on_ok_weaker}
 use Rattle.hn_data.proofs.OneMoreItem.{inner_more, inner_in_order}
 use Rattle.hn_data.proofs.delegations.add_delegations.Goals as goal
 

@@ -1,12 +1,5 @@
-use Rattle.std.proofs.Common.{◌≡◌, List, [], ◌∷◌, ◌++◌, sym, ap, ◌∙◌, append_assoc}
-use Rattle.std.specs.List.{filter_map}
-use Rattle.std.proofs.lemmas.List.Elements.{filter_map-append}
-use Rattle.hn_tlv.specs.Grammar.{PlainTlv}
-use Rattle.hn_tlv.specs.View.{plain}
-use Rattle.hn_typed.specs.Item.{PlainItem}
-use Rattle.hn_data.specs.Items.{IsReading}
-use Rattle.hn_data.specs.Delegations.{delegation_of}
-use Rattle.hn_data.specs.declared.said.Delegation.{Delegation}
+use Rattle.hn_base.proofs.Names.{◌≡◌, List, [], ◌∷◌, ◌++◌, sym, ap, ◌∙◌, append_assoc, filter_map, filter_map-append}
+use Rattle.hn_data.proofs.Names.{PlainTlv, plain, PlainItem, IsReading, delegation_of, Delegation}
 use Rattle.hn_data.proofs.OneMoreItem.{readings_join}
 use Rattle.hn_data.proofs.DoneUpTo.{done_more}
 use Rattle.hn_data.proofs.delegations.add_inner.Goals as goal

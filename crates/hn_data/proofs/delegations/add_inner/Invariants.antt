@@ -1,8 +1,5 @@
-use Rattle.std.proofs.Common.{◌≡◌, ◌-◌, List, ◌++◌, length}
-use Rattle.std.specs.List.{filter_map}
-use Rattle.hn_typed.specs.Item.{PlainItem}
-use Rattle.hn_data.specs.Items.{IsReading}
-use Rattle.hn_data.specs.Delegations.{delegation_of}
+use Rattle.hn_base.proofs.Names.{◌≡◌, ◌-◌, List, ◌++◌, length, filter_map}
+use Rattle.hn_data.proofs.Names.{PlainItem, IsReading, delegation_of}
 use Rattle.hn_data.proofs.DoneUpTo.{IsDoneTo}
 use Rattle.hn_data.proofs.delegations.add_inner.Given as goal
 

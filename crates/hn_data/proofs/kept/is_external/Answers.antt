@@ -1,6 +1,5 @@
-use Rattle.std.proofs.Common.{[], refl}
-use Rattle.hn_typed.specs.Item.{External}
-use Rattle.hn_base.proofs.AscendingLists.{Contains-head}
+use Rattle.hn_base.proofs.Names.{[], refl}
+use Rattle.hn_data.proofs.Names.{External, Contains-head}
 use Rattle.hn_data.proofs.kept.is_external.Goals as goal
 
 pub returns-in-External : goal.returns-in-External

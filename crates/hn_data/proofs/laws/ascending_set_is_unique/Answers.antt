@@ -1,8 +1,4 @@
-use Rattle.std.proofs.Common.{◌≡◌, ap, sym, ◌∙◌}
-use Rattle.std.specs.Ordering.{nat_cmp}
-use Rattle.std.specs.Cmp.Lexicographic.{slice_cmp}
-use Rattle.std.specs.List.{concat}
-use Rattle.std.proofs.lemmas.Cmp.{nat_list_cmp_total}
+use Rattle.hn_base.proofs.Names.{◌≡◌, ap, sym, ◌∙◌, nat_cmp, slice_cmp, concat, nat_list_cmp_total}
 use Rattle.hn_base.proofs.AscendingLists.{ascending_unique}
 use Rattle.hn_data.proofs.laws.ascending_set_is_unique.Goals as goal
 

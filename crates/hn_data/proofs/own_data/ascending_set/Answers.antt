@@ -1,5 +1,4 @@
-use Rattle.std.proofs.Common.{map, ap, ◌∙◌}
-use Rattle.std.specs.List.{concat}
+use Rattle.hn_base.proofs.Names.{map, ap, ◌∙◌, concat}
 use Rattle.hn_data.proofs.own_data.ascending_set.Goals as goal
 
 pub returns : goal.returns

@@ -1,11 +1,9 @@
-use Rattle.std.proofs.Common.{◌≡◌, ◌∙◌, ℕ, List, Bor, map, arith}
-use Rattle.std.specs.Cmp.Lexicographic.{slice_cmp, on_texts, on_texts_equal, texts_ties}
-use Rattle.std.specs.Ordering.{nat_cmp}
-use Rattle.std.proofs.lemmas.List.{take_all}
-use Rattle.std.proofs.lemmas.List.Filters.{dedup_is}
-use Rattle.std.proofs.lemmas.List.Kept.{IsStrictlySortedBy-dedup}
-use Rattle.std.proofs.lemmas.List.Sorted.{Contains-permutation, IsPermutation-sym, IsPermutation-map}
-use Rattle.hn_base.proofs.AscendingLists.{sorted_parts, dedup_parts_same, exact_lists, exact_nat}
+use Rattle.hn_base.proofs.Names.{◌≡◌, ◌∙◌, ℕ, List, map, arith, slice_cmp, nat_cmp, take_all, dedup_is, IsStrictlySortedBy-dedup, Contains-permutation, IsPermutation-sym}
+use Rattle.hn_data.proofs.Names.{exact_nat}
+use Rattle.std.proofs.Common.{Bor}
+use Rattle.std.specs.Cmp.Lexicographic.{on_texts, on_texts_equal, texts_ties}
+use Rattle.std.proofs.lemmas.List.Sorted.{IsPermutation-map}
+use Rattle.hn_base.proofs.AscendingLists.{sorted_parts, dedup_parts_same, exact_lists}
 use Rattle.hn_data.proofs.own_data.in_order.Goals as goal
 
 now : Bor (List ℕ) → List ℕ

@@ -1,4 +1,4 @@
-use Rattle.std.proofs.Common.{◌≡◌, take, map}
+use Rattle.hn_base.proofs.Names.{◌≡◌, take, map}
 use Rattle.hn_data.proofs.own_data.in_order.Given as goal
 
 abbrev pub invariant-loop-piece : goal.invariant-loop-piece

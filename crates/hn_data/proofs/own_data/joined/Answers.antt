@@ -1,4 +1,4 @@
-use Rattle.std.proofs.Common.{[], arith, ◌<◌, length}
+use Rattle.hn_base.proofs.Names.{[], arith, ◌<◌, length}
 use Rattle.hn_data.proofs.JoinedPieces.{concat_more}
 use Rattle.hn_data.proofs.own_data.joined.Goals as goal
 

@@ -1,5 +1,4 @@
-use Rattle.std.proofs.Common.{◌≡◌, take, map}
-use Rattle.std.specs.List.{concat}
+use Rattle.hn_base.proofs.Names.{◌≡◌, take, map, concat}
 use Rattle.hn_data.proofs.own_data.joined.Given as goal
 
 abbrev pub invariant-loop-piece : goal.invariant-loop-piece

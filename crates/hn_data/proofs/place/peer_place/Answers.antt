@@ -1,7 +1,6 @@
-use Rattle.std.proofs.Common.{◌≡◌, Some, refl, slice_get, length, IsTrue, false}
-use Rattle.std.proofs.lemmas.Option.{slice_get_read}
-use Rattle.hn_data.specs.View.{ids_of}
-use Rattle.hn_base.proofs.PartsAtPlaces.{contains_at, part_is}
+use Rattle.hn_base.proofs.Names.{◌≡◌, Some, refl, slice_get, length, IsTrue, false, slice_get_read}
+use Rattle.hn_data.proofs.Names.{ids_of, part_is}
+use Rattle.hn_base.proofs.PartsAtPlaces.{contains_at}
 use Rattle.hn_data.proofs.PeerPlaces.{peer_at, leads_to_peer}
 use Rattle.hn_data.proofs.place.peer_place.Goals as goal
 

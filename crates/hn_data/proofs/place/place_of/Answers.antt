@@ -1,11 +1,6 @@
-use Rattle.std.proofs.Common.{rules, slice_get, length, ◌<◌, ◌≡◌, Some}
+use Rattle.hn_base.proofs.Names.{rules, slice_get, length, ◌<◌, ◌≡◌, Some, nat_cmp, nat_cmp_total, answers_always, IfSome_then}
+use Rattle.hn_data.proofs.Names.{ids_of, exact_nat}
 use Rattle.std.specs.List.{Contains}
-use Rattle.std.specs.Ordering.{nat_cmp}
-use Rattle.std.proofs.lemmas.Cmp.{nat_cmp_total}
-use Rattle.std.proofs.lemmas.List.Sorted.{answers_always}
-use Rattle.std.proofs.lemmas.Option.{IfSome_then}
-use Rattle.hn_data.specs.View.{ids_of}
-use Rattle.hn_base.proofs.AscendingLists.{exact_nat}
 use Rattle.hn_base.proofs.PartsAtPlaces.{found_by}
 use Rattle.hn_data.proofs.PeerPlaces.{said_of_ok}
 use Rattle.hn_data.proofs.place.place_of.Goals as goal

@@ -1,5 +1,4 @@
-use Rattle.hn_tlv.specs.View.{plain}
-use Rattle.hn_data.specs.Kept.{AreKeptOf}
+use Rattle.hn_data.proofs.Names.{plain, AreKeptOf}
 use Rattle.hn_data.proofs.DoneUpTo.{done_more}
 use Rattle.hn_data.proofs.reading.add_all.Goals as goal
 

@@ -1,5 +1,5 @@
-use Rattle.std.proofs.Common.{◌-◌, length}
-use Rattle.hn_data.specs.Kept.{AreKeptOf}
+use Rattle.hn_base.proofs.Names.{◌-◌, length}
+use Rattle.hn_data.proofs.Names.{AreKeptOf}
 use Rattle.hn_data.proofs.DoneUpTo.{IsDoneTo}
 use Rattle.hn_data.proofs.reading.add_all.Given as goal
 

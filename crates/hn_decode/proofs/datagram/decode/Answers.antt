@@ -1,10 +1,7 @@
-use Rattle.std.proofs.Common.{List, ℕ, ◌++◌, refl, ap, ◌∙◌, append_assoc}
-use Rattle.std.proofs.lemmas.Result.{err_from_is_err_and}
+use Rattle.hn_base.proofs.Names.{List, ℕ, ◌++◌, refl, ap, ◌∙◌, append_assoc, err_from_is_err_and}
+use Rattle.hn_decode.proofs.Names.{TlvFault, FirstFault, tlvs_line}
 use Rattle.hn_base.proofs.Results.{tells_passed, tells_unfound}
-use Rattle.hn_tlv.specs.declared.fault.TlvFault.{TlvFault}
 use Rattle.hn_tlv.specs.declared.list_fault.ListFault.TheVariants.{Malformed}
-use Rattle.hn_tlv.specs.Grammar.{FirstFault}
-use Rattle.hn_decode.specs.Nested.{tlvs_line}
 use Rattle.hn_decode.proofs.datagram.decode.Goals as goal
 
 pub returns-in_err-count-clause-malformed : goal.returns-in_err-count-clause-malformed

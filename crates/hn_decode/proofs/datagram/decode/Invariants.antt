@@ -1,5 +1,5 @@
-use Rattle.std.proofs.Common.{◌≡◌, ◌-◌, ◌++◌, List, ℕ, length, string_bytes}
-use Rattle.hn_decode.specs.Nested.{tlvs_line, IsTextTo}
+use Rattle.hn_base.proofs.Names.{◌≡◌, ◌-◌, ◌++◌, List, ℕ, length, string_bytes}
+use Rattle.hn_decode.proofs.Names.{tlvs_line, IsTextTo}
 use Rattle.hn_decode.proofs.datagram.decode.Given as goal
 
 -- the first line, and the lines of the TLVs so far

@@ -1,6 +1,5 @@
-use Rattle.std.proofs.Common.{ℕ, ◌≡◌, ◌+◌, subst, arith}
-use Rattle.hn_tlv.specs.View.{plain}
-use Rattle.hn_decode.specs.Nested.{Shows}
+use Rattle.hn_base.proofs.Names.{ℕ, ◌≡◌, ◌+◌, subst, arith}
+use Rattle.hn_decode.proofs.Names.{plain, Shows}
 use Rattle.hn_decode.proofs.TextSoFar.{shown_more}
 use Rattle.hn_decode.proofs.datagram.push_next.Goals as goal
 

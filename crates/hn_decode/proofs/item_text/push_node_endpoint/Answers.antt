@@ -1,6 +1,4 @@
-use Rattle.std.proofs.Common.{codes, string_bytes}
-use Rattle.std.specs.Fmt.{decimal}
-use Rattle.hn_base.specs.HexText.{id_text}
+use Rattle.hn_base.proofs.Names.{codes, string_bytes, decimal, id_text}
 use Rattle.hn_decode.proofs.ItemLemmas.{added, two_fields}
 use Rattle.hn_decode.proofs.item_text.push_node_endpoint.Goals as goal
 

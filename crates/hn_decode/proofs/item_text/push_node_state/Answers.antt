@@ -1,6 +1,4 @@
-use Rattle.std.proofs.Common.{codes, string_bytes}
-use Rattle.std.specs.Fmt.{decimal}
-use Rattle.hn_base.specs.HexText.{hex_text, id_text}
+use Rattle.hn_base.proofs.Names.{codes, string_bytes, decimal, hex_text, id_text}
 use Rattle.hn_decode.proofs.ItemLemmas.{added, four_fields}
 use Rattle.hn_decode.proofs.item_text.push_node_state.Goals as goal
 

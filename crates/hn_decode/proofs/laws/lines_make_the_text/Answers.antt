@@ -1,5 +1,5 @@
-use Rattle.std.proofs.Common.{refl}
-use Rattle.hn_decode.specs.Nested.{Shows}
+use Rattle.hn_base.proofs.Names.{refl}
+use Rattle.hn_decode.proofs.Names.{Shows}
 use Rattle.hn_decode.proofs.TextSoFar.{shown_none, shown_all}
 use Rattle.hn_decode.proofs.WholeText.{whole_text}
 use Rattle.hn_decode.proofs.laws.lines_make_the_text.Goals as goal

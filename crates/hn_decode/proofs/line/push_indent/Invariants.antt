@@ -1,4 +1,4 @@
-use Rattle.std.proofs.Common.{◌≡◌, ◌++◌, replicate, string_bytes}
+use Rattle.hn_base.proofs.Names.{◌≡◌, ◌++◌, replicate, string_bytes}
 use Rattle.hn_decode.proofs.line.push_indent.Given as goal
 
 abbrev pub invariant-loop : goal.invariant-loop

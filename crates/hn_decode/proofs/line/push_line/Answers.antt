@@ -1,5 +1,5 @@
-use Rattle.std.proofs.Common.{string_bytes}
-use Rattle.hn_tlv.specs.View.{plain}
+use Rattle.hn_base.proofs.Names.{string_bytes}
+use Rattle.hn_decode.proofs.Names.{plain}
 use Rattle.hn_typed.specs.View.{plain_item}
 use Rattle.hn_decode.proofs.LineLemmas.{bad_alone, answer_alone, answer_above}
 use Rattle.hn_decode.proofs.line.push_line.Goals as goal

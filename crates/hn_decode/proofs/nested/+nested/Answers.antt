@@ -1,9 +1,5 @@
-use Rattle.std.proofs.Common.{◌≡◌, ℕ, ◌<◌, ◌≤◌, List, ◌++◌, length, string_bytes, ap, ◌∙◌, append_assoc, arith, rules}
-use Rattle.hn_tlv.specs.Grammar.{HasTlvs}
-use Rattle.hn_tlv.specs.View.{plain}
-use Rattle.hn_typed.specs.Item.{PlainItem}
-use Rattle.hn_decode.specs.Line.{within, IsLineAbove, IsLineAlone}
-use Rattle.hn_decode.specs.Nested.{Shows, GrowsByText}
+use Rattle.hn_base.proofs.Names.{◌≡◌, ℕ, ◌<◌, ◌≤◌, List, ◌++◌, length, string_bytes, ap, ◌∙◌, append_assoc, arith, rules}
+use Rattle.hn_decode.proofs.Names.{HasTlvs, plain, PlainItem, within, IsLineAbove, IsLineAlone, Shows, GrowsByText}
 use Rattle.hn_decode.proofs.Within.{length-within-le}
 use Rattle.hn_decode.proofs.TextSoFar.{shown_more, shown_all, shows_line, added_within}
 use Rattle.hn_decode.proofs.nested.+nested.Goals as goal

@@ -1,5 +1,5 @@
-use Rattle.std.proofs.Common.{◌+◌, ◌-◌, ◌*◌, length, string_bytes}
-use Rattle.hn_decode.specs.Nested.{Shows, IsShownTo, GrowsByText}
+use Rattle.hn_base.proofs.Names.{◌+◌, ◌-◌, ◌*◌, length, string_bytes}
+use Rattle.hn_decode.proofs.Names.{Shows, IsShownTo, GrowsByText}
 use Rattle.hn_decode.proofs.nested.+nested.Given as goal
 
 abbrev pub decreases-push_list : goal.decreases-push_list

@@ -1,9 +1,5 @@
-use Rattle.std.proofs.Common.{◌≡◌, ◌∙◌, ◌++◌, ap, refl, List, length, Some, slice_get}
-use Rattle.std.specs.List.{filter_map}
-use Rattle.std.proofs.lemmas.Option.{slice_get_read}
-use Rattle.std.proofs.lemmas.List.{take_all}
-use Rattle.hn_data.specs.declared.said.Delegation.{Delegation}
-use Rattle.hn_deleg.specs.Steps.{live_of}
+use Rattle.hn_base.proofs.Names.{◌≡◌, ◌∙◌, ◌++◌, ap, refl, List, length, Some, slice_get, filter_map, slice_get_read, take_all}
+use Rattle.hn_deleg.proofs.Names.{Delegation, live_of}
 use Rattle.hn_deleg.proofs.Live.{added_none, added_more_at, added_same_at}
 use Rattle.hn_deleg.proofs.announcements.add_live.Goals as goal
 use Rattle.hn_deleg.proofs.announcements.add_live.Goals.{in-Some+in_ok-push, in_default}

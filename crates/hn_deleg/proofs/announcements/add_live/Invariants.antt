@@ -1,4 +1,4 @@
-use Rattle.std.proofs.Common.{take}
+use Rattle.hn_base.proofs.Names.{take}
 use Rattle.hn_deleg.proofs.Live.{AreAdded}
 use Rattle.hn_deleg.proofs.announcements.add_live.Given as goal
 

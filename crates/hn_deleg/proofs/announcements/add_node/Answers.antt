@@ -1,4 +1,4 @@
-use Rattle.std.proofs.lemmas.Result.{on_ok_weaker}
+use Rattle.hn_base.proofs.Names.{on_ok_weaker}
 use Rattle.hn_deleg.proofs.Live.{live_added}
 use Rattle.hn_deleg.proofs.announcements.add_node.Goals as goal
 

@@ -1,8 +1,5 @@
-use Rattle.std.proofs.Common.{◌≡◌, ◌↔◌, subst, refl, List, length, Contains, Some, slice_get}
-use Rattle.std.proofs.lemmas.List.{take_all}
-use Rattle.std.proofs.lemmas.Option.{slice_get_read}
-use Rattle.hn_data.specs.declared.view.Entry.{Entry}
-use Rattle.hn_deleg.specs.Steps.{IsLiveIn}
+use Rattle.hn_base.proofs.Names.{◌≡◌, ◌↔◌, subst, refl, List, length, Contains, Some, slice_get, take_all, slice_get_read}
+use Rattle.hn_deleg.proofs.Names.{Entry, IsLiveIn}
 use Rattle.hn_deleg.proofs.Live.{live_more_at}
 use Rattle.hn_deleg.proofs.announcements.announced.Goals as goal
 

@@ -1,6 +1,5 @@
-use Rattle.std.proofs.Common.{take, Contains, ◌↔◌}
-use Rattle.hn_deleg.specs.declared.delegated.Delegated.{Delegated}
-use Rattle.hn_deleg.specs.Steps.{HasPrefixes, IsLiveIn}
+use Rattle.hn_base.proofs.Names.{take, Contains, ◌↔◌}
+use Rattle.hn_deleg.proofs.Names.{Delegated, HasPrefixes, IsLiveIn}
 use Rattle.hn_deleg.proofs.announcements.announced.Given as goal
 
 abbrev pub invariant-loop-node : goal.invariant-loop-node

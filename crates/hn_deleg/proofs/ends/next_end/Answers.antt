@@ -1,5 +1,4 @@
-use Rattle.hn_base.proofs.NextDue.{sooner_each}
-use Rattle.hn_deleg.specs.Due.{IsEndIn}
+use Rattle.hn_deleg.proofs.Names.{sooner_each, IsEndIn}
 use Rattle.hn_deleg.proofs.ends.next_end.Goals as goal
 
 pub loop-node-preserved : goal.loop-node-preserved

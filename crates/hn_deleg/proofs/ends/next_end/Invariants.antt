@@ -1,6 +1,5 @@
-use Rattle.std.proofs.Common.{take}
-use Rattle.hn_base.specs.Sooner.{IsSooner, IsOfElement}
-use Rattle.hn_deleg.specs.Due.{IsEndIn}
+use Rattle.hn_base.proofs.Names.{take, IsSooner, IsOfElement}
+use Rattle.hn_deleg.proofs.Names.{IsEndIn}
 use Rattle.hn_deleg.proofs.ends.next_end.Given as goal
 
 abbrev pub invariant-loop-node : goal.invariant-loop-node

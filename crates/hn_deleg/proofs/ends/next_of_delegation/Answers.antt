@@ -1,5 +1,5 @@
 use Rattle.hn_base.proofs.NextDue.{sooner_both}
-use Rattle.hn_deleg.specs.Due.{IsEnd}
+use Rattle.hn_deleg.proofs.Names.{IsEnd}
 use Rattle.hn_deleg.proofs.ends.next_of_delegation.Goals as goal
 
 pub returns : goal.returns

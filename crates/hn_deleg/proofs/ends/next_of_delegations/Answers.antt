@@ -1,5 +1,4 @@
-use Rattle.hn_base.proofs.NextDue.{sooner_each}
-use Rattle.hn_deleg.specs.Due.{IsDelegationEnd}
+use Rattle.hn_deleg.proofs.Names.{sooner_each, IsDelegationEnd}
 use Rattle.hn_deleg.proofs.ends.next_of_delegations.Goals as goal
 
 pub loop-d-preserved : goal.loop-d-preserved

@@ -1,6 +1,5 @@
-use Rattle.std.proofs.Common.{take}
-use Rattle.hn_base.specs.Sooner.{IsSooner, IsOfElement}
-use Rattle.hn_deleg.specs.Due.{IsDelegationEnd}
+use Rattle.hn_base.proofs.Names.{take, IsSooner, IsOfElement}
+use Rattle.hn_deleg.proofs.Names.{IsDelegationEnd}
 use Rattle.hn_deleg.proofs.ends.next_of_delegations.Given as goal
 
 abbrev pub invariant-loop-d : goal.invariant-loop-d

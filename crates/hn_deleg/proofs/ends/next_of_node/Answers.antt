@@ -1,8 +1,6 @@
-use Rattle.std.proofs.Common.{ℕ, ◌↔◌, ◌∙◌, sym}
-use Rattle.std.proofs.lemmas.Bool.{false≢true}
-use Rattle.hn_base.specs.Sooner.{IsOfElement}
+use Rattle.hn_base.proofs.Names.{ℕ, ◌↔◌, ◌∙◌, sym, false≢true, IsOfElement}
+use Rattle.hn_deleg.proofs.Names.{IsDelegationEnd, IsEndIn}
 use Rattle.hn_base.proofs.NextDue.{sooner_none, sooner_same}
-use Rattle.hn_deleg.specs.Due.{IsDelegationEnd, IsEndIn}
 use Rattle.hn_deleg.proofs.ends.next_of_node.Goals as goal
 
 pub returns-then-is_none : goal.returns-then-is_none

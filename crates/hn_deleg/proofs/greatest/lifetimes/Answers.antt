@@ -1,7 +1,5 @@
-use Rattle.std.proofs.Common.{◌≡◌, subst, List, refl, length, Some, slice_get}
-use Rattle.std.proofs.lemmas.Option.{slice_get_read}
-use Rattle.std.proofs.lemmas.List.{take_all}
-use Rattle.hn_deleg.specs.declared.delegated.Delegated.{Delegated}
+use Rattle.hn_base.proofs.Names.{◌≡◌, subst, List, refl, length, Some, slice_get, slice_get_read, take_all}
+use Rattle.hn_deleg.proofs.Names.{Delegated}
 use Rattle.hn_deleg.proofs.Prefixes.{prefix_from_test, other_from_test}
 use Rattle.hn_deleg.proofs.GreatestLifetimes.{AreTops, tops_none, tops_more_at, tops_other_at, lifetimes_from_tops}
 use Rattle.hn_deleg.proofs.greatest.lifetimes.Goals as goal

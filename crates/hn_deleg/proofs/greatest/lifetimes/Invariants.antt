@@ -1,4 +1,4 @@
-use Rattle.std.proofs.Common.{take}
+use Rattle.hn_base.proofs.Names.{take}
 use Rattle.hn_deleg.proofs.GreatestLifetimes.{AreTops}
 use Rattle.hn_deleg.proofs.greatest.lifetimes.Given as goal
 

@@ -1,9 +1,5 @@
-use Rattle.std.proofs.Common.{◌≡◌, refl, length, Contains, Some, slice_get}
-use Rattle.std.proofs.lemmas.List.Elements.{All-contains, All-push}
-use Rattle.std.proofs.lemmas.Option.{slice_get_read}
-use Rattle.hn_base.proofs.PartsAtPlaces.{contains_at}
-use Rattle.hn_deleg.specs.Steps.{HasLifetimesIn}
-use Rattle.hn_deleg.specs.Used.{prefixes_of}
+use Rattle.hn_base.proofs.Names.{◌≡◌, refl, length, Contains, Some, slice_get, All-contains, All-push, slice_get_read}
+use Rattle.hn_deleg.proofs.Names.{contains_at, HasLifetimesIn, prefixes_of}
 use Rattle.hn_deleg.proofs.UsableFromLive.{prefixes_more}
 use Rattle.hn_deleg.proofs.greatest.with_lifetimes.Goals as goal
 

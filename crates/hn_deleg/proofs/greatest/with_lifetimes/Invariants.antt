@@ -1,7 +1,5 @@
-use Rattle.std.proofs.Common.{◌≡◌, take}
-use Rattle.std.specs.Prelude.{All}
-use Rattle.hn_deleg.specs.Steps.{HasLifetimesIn}
-use Rattle.hn_deleg.specs.Used.{prefixes_of}
+use Rattle.hn_base.proofs.Names.{◌≡◌, take, All}
+use Rattle.hn_deleg.proofs.Names.{HasLifetimesIn, prefixes_of}
 use Rattle.hn_deleg.proofs.greatest.with_lifetimes.Given as goal
 
 abbrev pub invariant-loop-prefix : goal.invariant-loop-prefix

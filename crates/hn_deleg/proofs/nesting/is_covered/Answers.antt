@@ -1,5 +1,5 @@
-use Rattle.std.proofs.Common.{◌≡◌, ◌-◌, sym, slice_get, Some, length}
-use Rattle.hn_base.proofs.PartsAtPlaces.{contains_at}
+use Rattle.hn_base.proofs.Names.{◌≡◌, ◌-◌, sym, slice_get, Some, length}
+use Rattle.hn_deleg.proofs.Names.{contains_at}
 use Rattle.hn_deleg.proofs.Filtered.{covered_by_last}
 use Rattle.hn_deleg.proofs.nesting.is_covered.Goals as goal
 

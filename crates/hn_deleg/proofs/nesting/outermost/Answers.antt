@@ -1,8 +1,5 @@
-use Rattle.std.proofs.Common.{◌≡◌, subst, sym, refl, List, length, Some, slice_get}
-use Rattle.std.proofs.lemmas.Option.{slice_get_read}
-use Rattle.std.proofs.lemmas.List.{take_all}
-use Rattle.hn_base.specs.Prefix.{PlainPrefix}
-use Rattle.hn_deleg.specs.Steps.{IsCovered}
+use Rattle.hn_base.proofs.Names.{◌≡◌, subst, sym, refl, List, length, Some, slice_get, slice_get_read, take_all, PlainPrefix}
+use Rattle.hn_deleg.proofs.Names.{IsCovered}
 use Rattle.hn_deleg.proofs.Filtered.{IsFiltered, filtered_none, filtered_same_at, filtered_more_at, ready_at, outermost_from_filtered}
 use Rattle.hn_deleg.proofs.nesting.outermost.Goals as goal
 use Rattle.hn_deleg.proofs.nesting.outermost.Goals.{then-not-is_covered+in_ok-push, else-not-is_covered}

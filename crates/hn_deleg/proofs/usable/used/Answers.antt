@@ -1,10 +1,6 @@
-use Rattle.std.proofs.Common.{◌≡◌, ◌∙◌, List, subst, take}
-use Rattle.std.specs.Prelude.{All}
+use Rattle.hn_base.proofs.Names.{◌≡◌, ◌∙◌, List, subst, take, All, PlainPrefix}
+use Rattle.hn_deleg.proofs.Names.{Delegated, AreOutermost, HasLifetimesIn, prefixes_of}
 use Rattle.hn_data.specs.View.{plain_view}
-use Rattle.hn_base.specs.Prefix.{PlainPrefix}
-use Rattle.hn_deleg.specs.declared.delegated.Delegated.{Delegated}
-use Rattle.hn_deleg.specs.Steps.{AreOutermost, HasLifetimesIn}
-use Rattle.hn_deleg.specs.Used.{prefixes_of}
 use Rattle.hn_deleg.proofs.UsableFromLive.{sorted_prefixes, valid_candidates, kept_in_live, usable}
 use Rattle.hn_deleg.proofs.usable.used.Goals as goal
 

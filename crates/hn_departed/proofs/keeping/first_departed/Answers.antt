@@ -1,6 +1,5 @@
-use Rattle.std.proofs.Common.{◌≡◌, ◌+◌, ◌∷◌, ◌++◌, take, drop, sym, ap, ◌∙◌, List}
-use Rattle.hn_departed.specs.declared.departures.Told.{Told}
-use Rattle.hn_departed.specs.Departed.{without_first}
+use Rattle.hn_base.proofs.Names.{◌≡◌, ◌+◌, ◌∷◌, ◌++◌, take, drop, sym, ap, ◌∙◌, List}
+use Rattle.hn_departed.proofs.Names.{Told, without_first}
 use Rattle.hn_departed.proofs.FirstGoes.{stands_at, none_until, goes_at, one_more}
 use Rattle.hn_departed.proofs.keeping.first_departed.Goals as goal
 

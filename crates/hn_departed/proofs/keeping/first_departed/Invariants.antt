@@ -1,5 +1,5 @@
-use Rattle.std.proofs.Common.{◌≡◌, ◌<◌, ◌++◌, length, take, drop}
-use Rattle.hn_departed.specs.Departed.{without_first}
+use Rattle.hn_base.proofs.Names.{◌≡◌, ◌<◌, ◌++◌, length, take, drop}
+use Rattle.hn_departed.proofs.Names.{without_first}
 use Rattle.hn_departed.proofs.keeping.first_departed.Given as goal
 
 abbrev pub invariant-place : goal.invariant-place

@@ -1,5 +1,5 @@
-use Rattle.std.proofs.Common.{◌≡◌, sym, ap, ◌∙◌, arith}
-use Rattle.hn_departed.specs.Departed.{without_first, kept}
+use Rattle.hn_base.proofs.Names.{◌≡◌, sym, ap, ◌∙◌, arith}
+use Rattle.hn_departed.proofs.Names.{without_first, kept}
 use Rattle.hn_departed.proofs.FirstGoes.{one_goes}
 use Rattle.hn_departed.proofs.keeping.keep_few.Goals as goal
 

@@ -1,5 +1,5 @@
-use Rattle.std.proofs.Common.{◌≡◌, length}
-use Rattle.hn_departed.specs.Departed.{kept}
+use Rattle.hn_base.proofs.Names.{◌≡◌, length}
+use Rattle.hn_departed.proofs.Names.{kept}
 use Rattle.hn_departed.proofs.keeping.keep_few.Given as goal
 
 abbrev pub invariant-loop-queue : goal.invariant-loop-queue

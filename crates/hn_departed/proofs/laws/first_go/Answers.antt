@@ -1,5 +1,5 @@
-use Rattle.std.proofs.Common.{◌-◌, length}
-use Rattle.hn_departed.specs.Departed.{departed}
+use Rattle.hn_base.proofs.Names.{◌-◌, length}
+use Rattle.hn_departed.proofs.Names.{departed}
 use Rattle.hn_departed.proofs.FirstGoes.{first_goes}
 use Rattle.hn_departed.proofs.laws.first_go.Goals as goal
 

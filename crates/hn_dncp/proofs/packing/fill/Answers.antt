@@ -1,5 +1,5 @@
-use Rattle.std.proofs.Common.{◌≡◌, ◌∙◌, ℕ, List, ◌++◌, length, take, inr, ap, sym, arith, length-append}
-use Rattle.hn_dncp.specs.Packing.{datagram_of}
+use Rattle.hn_base.proofs.Names.{◌≡◌, ◌∙◌, ℕ, List, ◌++◌, length, take, inr, ap, sym, arith, length-append}
+use Rattle.hn_dncp.proofs.Names.{datagram_of}
 use Rattle.hn_dncp.proofs.OneTlvMore.{datagram_of-take_more}
 use Rattle.hn_dncp.proofs.packing.fill.Goals as goal
 

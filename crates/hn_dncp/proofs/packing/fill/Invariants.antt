@@ -1,5 +1,5 @@
-use Rattle.std.proofs.Common.{◌≡◌, ◌≤◌, ◌⊎◌, length, take}
-use Rattle.hn_dncp.specs.Packing.{datagram_of}
+use Rattle.hn_base.proofs.Names.{◌≡◌, ◌≤◌, ◌⊎◌, length, take}
+use Rattle.hn_dncp.proofs.Names.{datagram_of}
 use Rattle.hn_dncp.proofs.packing.fill.Given as goal
 
 -- the datagram holds the TLVs so far, and a second one did not carry it past its bound

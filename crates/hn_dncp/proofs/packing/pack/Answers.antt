@@ -1,8 +1,6 @@
-use Rattle.std.proofs.Common.{◌≤◌, ◌∙◌, List, ℕ, [], ◌∷◌, ◌++◌, take, drop, length, ap, sym, subst, arith, append_assoc, length-drop}
-use Rattle.std.proofs.lemmas.List.{append-nil, drop-drop, drop_all, take_rest}
-use Rattle.hn_base.specs.declared.ids.NodeId.{NodeId}
-use Rattle.hn_base.specs.declared.ids.EpId.{EpId}
-use Rattle.hn_dncp.specs.Packing.{IsFilled, IsPacking}
+use Rattle.hn_base.proofs.Names.{◌≤◌, ◌∙◌, List, ℕ, [], ◌∷◌, ◌++◌, take, drop, length, ap, sym, subst, arith, append_assoc, append-nil, drop-drop, drop_all, take_rest}
+use Rattle.hn_dncp.proofs.Names.{NodeId, EpId, IsFilled, IsPacking}
+use Rattle.std.proofs.Common.{length-drop}
 use Rattle.hn_dncp.proofs.Packings.{packing_more, packing_short}
 use Rattle.hn_dncp.proofs.packing.pack.Goals as goal
 

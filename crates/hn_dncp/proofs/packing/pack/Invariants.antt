@@ -1,5 +1,5 @@
-use Rattle.std.proofs.Common.{ℕ, ◌≤◌, ◌-◌, List, ◌++◌, length, drop}
-use Rattle.hn_dncp.specs.Packing.{IsPacking}
+use Rattle.hn_base.proofs.Names.{ℕ, ◌≤◌, ◌-◌, List, ◌++◌, length, drop}
+use Rattle.hn_dncp.proofs.Names.{IsPacking}
 use Rattle.hn_dncp.proofs.packing.pack.Given as goal
 
 -- with datagrams that hold the TLVs that are left, those so far hold all

@@ -1,5 +1,4 @@
-use Rattle.std.proofs.Common.{◌≡◌, ◌≤◌, arith}
-use Rattle.hn_base.specs.Sooner.{IsSooner}
+use Rattle.hn_base.proofs.Names.{◌≡◌, ◌≤◌, arith, IsSooner}
 use Rattle.hn_base.proofs.NextDue.{sooner_cut, sooner_each}
 use Rattle.hn_graph.specs.Later.{age_limit}
 use Rattle.hn_graph.proofs.later.next_age_limit.Goals as goal

@@ -1,6 +1,5 @@
-use Rattle.std.proofs.Common.{take}
-use Rattle.hn_base.specs.Sooner.{IsSooner}
-use Rattle.hn_graph.specs.Later.{IsAgeLimit}
+use Rattle.hn_base.proofs.Names.{take, IsSooner}
+use Rattle.hn_graph.proofs.Names.{IsAgeLimit}
 use Rattle.hn_graph.proofs.later.next_age_limit.Given as goal
 
 abbrev pub invariant-loop-node : goal.invariant-loop-node

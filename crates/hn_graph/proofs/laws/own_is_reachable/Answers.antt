@@ -1,6 +1,6 @@
-use Rattle.std.proofs.Common.{subst}
-use Rattle.hn_graph.specs.Path.{IsReachable}
-use Rattle.hn_base.proofs.PartsAtPlaces.{part_of, contains_at}
+use Rattle.hn_base.proofs.Names.{subst}
+use Rattle.hn_graph.proofs.Names.{IsReachable, contains_at}
+use Rattle.hn_base.proofs.PartsAtPlaces.{part_of}
 use Rattle.hn_graph.proofs.Ways.{way_to_own, path_from_way}
 use Rattle.hn_graph.proofs.laws.own_is_reachable.Goals as goal
 

@@ -1,7 +1,5 @@
-use Rattle.std.proofs.Common.{Contains, refl, sym, subst, length}
-use Rattle.std.proofs.lemmas.Option.{slice_get_read}
-use Rattle.hn_data.specs.View.{ids_of}
-use Rattle.hn_base.proofs.PartsAtPlaces.{contains_at, part_stands}
+use Rattle.hn_base.proofs.Names.{Contains, refl, sym, subst, length, slice_get_read}
+use Rattle.hn_graph.proofs.Names.{ids_of, contains_at, part_stands}
 use Rattle.hn_graph.proofs.Ways.{along_path}
 use Rattle.hn_graph.proofs.laws.reachable_is_a_node.Goals as goal
 

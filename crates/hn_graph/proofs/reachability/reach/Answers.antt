@@ -1,11 +1,7 @@
-use Rattle.std.proofs.Common.{rules, ◌≡◌, ◌↔◌, ◌∷◌, ◌++◌, ◌+◌, ◌∙◌, [], List, ℕ, length, replicate, not, false, get_or, refl, ap, slice_get, Some, arith, subst, Contains}
-use Rattle.std.proofs.lemmas.List.Elements.{Contains-push, Contains-get_or}
-use Rattle.std.specs.List.{count_by}
-use Rattle.std.proofs.lemmas.Grind.{common_steps}
-use Rattle.std.proofs.lemmas.List.{nil_from_length, length_push}
-use Rattle.std.proofs.lemmas.Result.{IfOk-weaker}
-use Rattle.std.proofs.lemmas.Option.{slice_get_read, slice_get_within}
-use Rattle.hn_graph.specs.Search.{ArePlacesNext, HasMarked, HasFound}
+use Rattle.hn_base.proofs.Names.{rules, ◌≡◌, ◌↔◌, ◌∷◌, ◌++◌, ◌+◌, ◌∙◌, [], List, ℕ, length, replicate, not, false, get_or, refl, ap, slice_get, Some, arith, subst, Contains, Contains-push}
+use Rattle.hn_base.proofs.Names.{Contains-get_or, count_by, common_steps, length_push, IfOk-weaker, slice_get_read, slice_get_within}
+use Rattle.hn_graph.proofs.Names.{ArePlacesNext, HasMarked, HasFound}
+use Rattle.std.proofs.lemmas.List.{nil_from_length}
 use Rattle.hn_graph.proofs.LeftToMark.{all_left, none_left}
 use Rattle.hn_graph.proofs.Progress.{IsUnderway, begin, visit, finish}
 use Rattle.hn_graph.proofs.reachability.reach.Goals as goal

@@ -1,5 +1,4 @@
-use Rattle.std.proofs.Common.{◌≡◌, ◌+◌, length, not}
-use Rattle.std.specs.List.{count_by}
+use Rattle.hn_base.proofs.Names.{◌≡◌, ◌+◌, length, not, count_by}
 use Rattle.hn_graph.proofs.Progress.{IsUnderway}
 use Rattle.hn_graph.proofs.reachability.reach.Given as goal
 

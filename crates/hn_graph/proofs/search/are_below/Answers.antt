@@ -1,9 +1,5 @@
-use Rattle.std.proofs.Common.{rules, ◌≡◌, ◌<◌, ◌-◌, Some, length, refl, get_or, slice_get, arith}
-use Rattle.std.proofs.lemmas.Bool.{ltb-true}
-use Rattle.std.proofs.lemmas.Option.{slice_get_read, get_or_from_slice_get}
-use Rattle.std.proofs.lemmas.List.{length-map}
-use Rattle.hn_base.proofs.PartsAtPlaces.{part_stands}
-use Rattle.hn_data.specs.View.{ids_of}
+use Rattle.hn_base.proofs.Names.{rules, ◌≡◌, ◌<◌, ◌-◌, Some, length, refl, get_or, slice_get, arith, ltb-true, slice_get_read, get_or_from_slice_get, length-map}
+use Rattle.hn_graph.proofs.Names.{part_stands, ids_of}
 use Rattle.hn_graph.proofs.Gaps.{below_all}
 use Rattle.hn_graph.proofs.search.are_below.Goals as goal
 

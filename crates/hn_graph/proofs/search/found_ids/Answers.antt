@@ -1,5 +1,4 @@
-use Rattle.std.proofs.Common.{length, refl, slice_get, Some, ◌≡◌}
-use Rattle.std.proofs.lemmas.Option.{slice_get_read}
+use Rattle.hn_base.proofs.Names.{length, refl, slice_get, Some, ◌≡◌, slice_get_read}
 use Rattle.hn_graph.proofs.MarkedIds.{none_found, found_same, found_more, found_all}
 use Rattle.hn_graph.proofs.search.found_ids.Goals as goal
 use Rattle.hn_graph.proofs.search.found_ids.Goals.{then-is_found+in_ok-push, else-is_found}

@@ -1,4 +1,4 @@
-use Rattle.hn_data.specs.View.{ids_of}
+use Rattle.hn_graph.proofs.Names.{ids_of}
 use Rattle.hn_graph.proofs.Gaps.{none_there}
 use Rattle.hn_graph.proofs.search.is_gap.Goals as goal
 

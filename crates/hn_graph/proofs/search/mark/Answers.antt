@@ -1,5 +1,5 @@
-use Rattle.std.proofs.Common.{◌≡◌, ◌<◌, length, get_or, false, sym, ◌∙◌, arith}
-use Rattle.std.proofs.lemmas.List.{take_more, get_or_read}
+use Rattle.hn_base.proofs.Names.{◌≡◌, ◌<◌, length, get_or, false, sym, ◌∙◌, arith, take_more}
+use Rattle.std.proofs.lemmas.List.{get_or_read}
 use Rattle.hn_graph.proofs.Marking.{none_marked, mark_again, mark_new}
 use Rattle.hn_graph.proofs.search.mark.Goals as goal
 use Rattle.hn_graph.proofs.search.mark.Goals.{then-not-index+in_ok-push, else-not-index}

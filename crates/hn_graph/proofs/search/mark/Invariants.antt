@@ -1,5 +1,5 @@
-use Rattle.std.proofs.Common.{take}
-use Rattle.hn_graph.specs.Search.{HasMarked}
+use Rattle.hn_base.proofs.Names.{take}
+use Rattle.hn_graph.proofs.Names.{HasMarked}
 use Rattle.hn_graph.proofs.search.mark.Given as goal
 
 abbrev pub invariant-loop-place : goal.invariant-loop-place

@@ -1,6 +1,4 @@
-use Rattle.std.proofs.Common.{ℕ}
-use Rattle.std.proofs.lemmas.List.Elements.{Contains-get_or}
-use Rattle.std.proofs.lemmas.Option.{slice_get-get_or}
+use Rattle.hn_base.proofs.Names.{ℕ, Contains-get_or, slice_get-get_or}
 use Rattle.hn_graph.proofs.WhereLinksLead.{across_more, across_same, next_across}
 use Rattle.hn_graph.proofs.search.next_places.Goals as goal
 use Rattle.hn_graph.proofs.search.next_places.Goals.{in-Some+in_ok-push, in_default}

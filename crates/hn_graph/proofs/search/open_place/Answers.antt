@@ -1,13 +1,5 @@
-use Rattle.std.proofs.Common.{◌≡◌, ℕ, List, Some, IsTrue, false, length, refl, sym, ap, ◌∙◌, subst, slice_get}
-use Rattle.std.specs.List.Sorted.{IsStrictlySortedBy}
-use Rattle.std.specs.Ordering.{nat_cmp}
-use Rattle.std.proofs.lemmas.Option.{same_Some, slice_get_read}
-use Rattle.hn_data.specs.View.{ids_of}
-use Rattle.hn_data.specs.Links.{IsPeerAt}
-use Rattle.hn_data.specs.Peers.{HasPeer, peer_link}
-use Rattle.hn_data.specs.declared.said.PeerLink.{PeerLink}
-use Rattle.hn_data.specs.declared.view.Entry.{Entry}
-use Rattle.hn_base.proofs.PartsAtPlaces.{contains_at, part_is, one_place_of}
+use Rattle.hn_base.proofs.Names.{◌≡◌, ℕ, List, Some, IsTrue, false, length, refl, sym, ap, ◌∙◌, subst, slice_get, IsStrictlySortedBy, nat_cmp, same_Some, slice_get_read}
+use Rattle.hn_graph.proofs.Names.{ids_of, IsPeerAt, HasPeer, peer_link, PeerLink, Entry, contains_at, part_is, one_place_of}
 use Rattle.hn_graph.proofs.WhereLinksLead.{leads_there, leads_at}
 use Rattle.hn_graph.proofs.search.open_place.Goals as goal
 

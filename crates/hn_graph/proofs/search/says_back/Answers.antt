@@ -1,4 +1,4 @@
-use Rattle.hn_data.specs.Peers.{peer_link}
+use Rattle.hn_graph.proofs.Names.{peer_link}
 use Rattle.hn_graph.proofs.search.says_back.Goals as goal
 
 pub returns : goal.returns

@@ -1,10 +1,8 @@
-use Rattle.std.proofs.Common.{rules, slice_get, length, ◌<◌, ◌≡◌, Some, Ok, Err, Result, MatchResult, ℕ, IfOk}
+use Rattle.hn_base.proofs.Names.{rules, slice_get, length, ◌<◌, ◌≡◌, Some, Ok, Err, Result, MatchResult, ℕ, nat_cmp, nat_cmp_total, answers_always}
+use Rattle.hn_graph.proofs.Names.{ids_of}
+use Rattle.std.proofs.Common.{IfOk}
 use Rattle.std.specs.Result.{IfErr}
 use Rattle.std.specs.List.{Contains}
-use Rattle.std.specs.Ordering.{nat_cmp}
-use Rattle.std.proofs.lemmas.Cmp.{nat_cmp_total}
-use Rattle.std.proofs.lemmas.List.Sorted.{answers_always}
-use Rattle.hn_data.specs.View.{ids_of}
 use Rattle.hn_base.proofs.AscendingLists.{exact_nat}
 use Rattle.hn_base.proofs.PartsAtPlaces.{found_by}
 use Rattle.hn_graph.proofs.search.search.Goals as goal

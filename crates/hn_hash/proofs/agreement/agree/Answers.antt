@@ -1,5 +1,5 @@
-use Rattle.std.proofs.Common.{◌≡◌, sym, ◌∙◌}
-use Rattle.hn_hash.specs.Network.{leaf_text}
+use Rattle.hn_base.proofs.Names.{◌≡◌, sym, ◌∙◌}
+use Rattle.hn_hash.proofs.Names.{leaf_text}
 use Rattle.hn_hash.proofs.SameOrCollide.{same_from_ne, same_from_bodies, exhibited_in_place}
 use Rattle.hn_hash.proofs.AlikeLeaves.{IsAlike-from_texts}
 use Rattle.hn_hash.proofs.FirstDifference.{body_at-read}

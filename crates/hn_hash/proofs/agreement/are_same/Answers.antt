@@ -1,5 +1,5 @@
-use Rattle.std.proofs.Common.{arith, rules}
-use Rattle.std.proofs.lemmas.Iterator.{same_from_all, YieldsList-from_slice, YieldsList-from_zip}
+use Rattle.hn_base.proofs.Names.{arith, rules, YieldsList-from_slice, YieldsList-from_zip}
+use Rattle.std.proofs.lemmas.Iterator.{same_from_all}
 use Rattle.hn_hash.proofs.agreement.are_same.Goals as goal
 
 pub returns-then-a-b : goal.returns-then-a-b

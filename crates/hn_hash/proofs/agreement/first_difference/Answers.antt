@@ -1,5 +1,5 @@
-use Rattle.std.proofs.Common.{rules}
-use Rattle.std.proofs.lemmas.Iterator.{IsFirst-from_position, YieldsList-from_slice, YieldsList-from_zip}
+use Rattle.hn_base.proofs.Names.{rules, YieldsList-from_slice, YieldsList-from_zip}
+use Rattle.std.proofs.lemmas.Iterator.{IsFirst-from_position}
 use Rattle.hn_hash.proofs.FirstDifference.{HaveSameBody, HaveOtherBodies, first_from_zip}
 use Rattle.hn_hash.proofs.agreement.first_difference.Goals as goal
 

@@ -1,5 +1,5 @@
-use Rattle.std.proofs.Common.{◌≡◌, take}
-use Rattle.hn_hash.specs.Network.{leaf_text}
+use Rattle.hn_base.proofs.Names.{◌≡◌, take}
+use Rattle.hn_hash.proofs.Names.{leaf_text}
 use Rattle.hn_hash.proofs.agreement.text_of.Given as goal
 
 -- the entries of the leaves so far

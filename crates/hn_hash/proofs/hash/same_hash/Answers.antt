@@ -1,10 +1,7 @@
-use Rattle.std.proofs.Common.{◌≡◌, ◌∙◌, sym, ap}
+use Rattle.hn_base.proofs.Names.{◌≡◌, ◌∙◌, sym, ap, nat_eq, to_be_bytes, from_be_bytes, Decides-like, Decides-eqb, bytes_eq-Decides}
 use Rattle.std.specs.Bool.{Decides, one_answer}
-use Rattle.std.specs.Prelude.{nat_eq}
-use Rattle.std.specs.Int.{w64, to_be_bytes, from_be_bytes}
-use Rattle.std.proofs.lemmas.Bool.Decides.{Decides-like, Decides-eqb}
+use Rattle.std.specs.Int.{w64}
 use Rattle.std.proofs.lemmas.Nat.{be_bytes_8}
-use Rattle.std.proofs.lemmas.Slice.Eq.{bytes_eq-Decides}
 use Rattle.hn_hash.proofs.hash.same_hash.Goals as goal
 
 -- the bytes of the number that a hash makes are the hash

@@ -1,7 +1,5 @@
-use Rattle.std.proofs.Common.{◌<◌, ◌^◌, subst, arith}
-use Rattle.std.proofs.lemmas.Grind.{common_steps}
-use Rattle.std.proofs.lemmas.List.Elements.{All-more}
-use Rattle.hn_hash.specs.declared.leaf.Leaf.{Leaf}
+use Rattle.hn_base.proofs.Names.{◌<◌, ◌^◌, subst, arith, common_steps, All-more}
+use Rattle.hn_hash.proofs.Names.{Leaf}
 use Rattle.hn_hash.proofs.network_state.network.Goals as goal
 
 pub loop-leaf-preserved : goal.loop-leaf-preserved

@@ -1,6 +1,5 @@
-use Rattle.std.proofs.Common.{take}
-use Rattle.md5.specs.Md5.{Holds}
-use Rattle.hn_hash.specs.Network.{leaf_text, AreNumbered}
+use Rattle.hn_base.proofs.Names.{take}
+use Rattle.hn_hash.proofs.Names.{Holds, leaf_text, AreNumbered}
 use Rattle.hn_hash.proofs.network_state.network.Given as goal
 
 -- the hasher holds the entries of the leaves so far, and their numbers were read

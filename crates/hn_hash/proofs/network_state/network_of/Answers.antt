@@ -1,10 +1,5 @@
-use Rattle.std.proofs.Common.{◌≡◌, ◌<◌, ◌^◌, ◌∙◌, [], List, take, get_or, ap, arith, subst}
-use Rattle.std.specs.Prelude.{All}
-use Rattle.std.proofs.lemmas.Grind.{common_steps}
-use Rattle.std.proofs.lemmas.List.Elements.{All-more}
-use Rattle.hn_hash.specs.Hash.{hash_of}
-use Rattle.hn_hash.specs.Network.{part_text}
-use Rattle.hn_hash.specs.declared.part.Part.{Part}
+use Rattle.hn_base.proofs.Names.{◌≡◌, ◌<◌, ◌^◌, ◌∙◌, [], List, take, get_or, ap, arith, subst, All, common_steps, All-more}
+use Rattle.hn_hash.proofs.Names.{hash_of, part_text, Part}
 use Rattle.hn_hash.proofs.PartsOfLeaves.{part_text-map, AreNumbered-from_parts}
 use Rattle.hn_hash.proofs.network_state.network_of.Goals as goal
 

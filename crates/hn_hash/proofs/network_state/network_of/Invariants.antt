@@ -1,7 +1,5 @@
-use Rattle.std.proofs.Common.{take, ◌<◌, ◌^◌}
-use Rattle.std.specs.Prelude.{All}
-use Rattle.md5.specs.Md5.{Holds}
-use Rattle.hn_hash.specs.Network.{part_text}
+use Rattle.hn_base.proofs.Names.{take, ◌<◌, ◌^◌, All}
+use Rattle.hn_hash.proofs.Names.{Holds, part_text}
 use Rattle.hn_hash.proofs.network_state.network_of.Given as goal
 
 -- the hasher holds the entries of the parts so far, and their numbers were read

@@ -1,6 +1,5 @@
-use Rattle.std.proofs.Common.{◌≡◌, ◌++◌, take}
-use Rattle.std.specs.Prelude.{map}
-use Rattle.hn_lab.specs.AddressReports.{address_line}
+use Rattle.hn_base.proofs.Names.{◌≡◌, ◌++◌, take}
+use Rattle.hn_lab.proofs.Names.{map, address_line}
 use Rattle.hn_lab.proofs.address_reports.add_address_lines.Given as goal
 
 -- the addresses so far have a line each

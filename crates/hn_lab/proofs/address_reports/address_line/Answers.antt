@@ -1,4 +1,4 @@
-use Rattle.std.proofs.Common.{append_assoc}
+use Rattle.hn_base.proofs.Names.{append_assoc}
 use Rattle.hn_lab.proofs.address_reports.address_line.Goals as goal
 
 pub returns : goal.returns

@@ -1,9 +1,5 @@
-use Rattle.std.proofs.Common.{rules, ◌≡◌, IsTrue, true, false, inl, inr, refl}
-use Rattle.hn_base.specs.Name.{name_text}
-use Rattle.hn_addr.specs.Addresses.{IsAddressStill}
-use Rattle.hn_audit.specs.Settled.{IsSettled}
-use Rattle.hn_world.specs.declared.member.Member.{Member}
-use Rattle.hn_lab.specs.AddressReports.{AreAddressesStill}
+use Rattle.hn_base.proofs.Names.{rules, ◌≡◌, IsTrue, true, false, inl, inr, refl, name_text}
+use Rattle.hn_lab.proofs.Names.{IsAddressStill, IsSettled, Member, AreAddressesStill}
 use Rattle.hn_lab.proofs.AddressSets.{are_alone}
 use Rattle.hn_lab.proofs.Sets.{IsKnown, answers_of, named_runs}
 use Rattle.hn_lab.proofs.address_reports.addressed.Goals as goal

@@ -1,6 +1,5 @@
-use Rattle.std.proofs.Common.{◌≡◌, ◌∙◌, List, ap, append_assoc}
-use Rattle.std.specs.Prelude.{string_bytes}
-use Rattle.hn_own.specs.Addresses.{OwnAddress}
+use Rattle.hn_base.proofs.Names.{◌≡◌, ◌∙◌, List, ap, append_assoc}
+use Rattle.hn_lab.proofs.Names.{string_bytes, OwnAddress}
 use Rattle.hn_lab.proofs.AddressTexts.{addresses_head, lines_on, all_lines}
 use Rattle.hn_lab.proofs.address_reports.addresses_lines.Goals as goal
 

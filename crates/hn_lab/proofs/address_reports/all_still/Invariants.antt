@@ -1,6 +1,5 @@
-use Rattle.std.proofs.Common.{IsTrue, All, take}
-use Rattle.hn_addr.specs.Addresses.{IsAddressStill}
-use Rattle.hn_audit.specs.Set.{is_in_set}
+use Rattle.hn_base.proofs.Names.{IsTrue, take}
+use Rattle.hn_lab.proofs.Names.{All, IsAddressStill, is_in_set}
 use Rattle.hn_lab.proofs.address_reports.all_still.Given as goal
 
 -- each so far is still, if it is in the set

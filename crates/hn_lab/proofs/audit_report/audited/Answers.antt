@@ -1,6 +1,5 @@
-use Rattle.std.proofs.Common.{rules, ◌≡◌, IsTrue, true, false, inl, inr, refl}
-use Rattle.hn_audit.specs.Quiet.{IsQuiet}
-use Rattle.hn_audit.specs.Settled.{IsSettled}
+use Rattle.hn_base.proofs.Names.{rules, ◌≡◌, IsTrue, true, false, inl, inr, refl}
+use Rattle.hn_lab.proofs.Names.{IsQuiet, IsSettled}
 use Rattle.hn_lab.proofs.audit_report.audited.Goals as goal
 
 pub returns-then-not-branch-2 : goal.returns-then-not-branch-2

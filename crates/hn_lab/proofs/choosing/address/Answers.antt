@@ -1,12 +1,6 @@
-use Rattle.std.proofs.Common.{◌∙◌, [], Option, None, Some, inl, refl, sym, subst}
-use Rattle.hn_addr.specs.Addresses.{IsChoice}
+use Rattle.hn_base.proofs.Names.{◌∙◌, [], Option, None, Some, inl, refl, sym, subst}
+use Rattle.hn_lab.proofs.Names.{IsChoice, WEvent, Refused, chosen_event, MayHappen, Leaves, OtherEnds, Stage, stage_of, words_of}
 use Rattle.hn_script.specs.declared.line.Line.TheVariants as line
-use Rattle.hn_world.specs.declared.event.WEvent.{WEvent}
-use Rattle.hn_lab.specs.declared.end.Stop.TheVariants.{Refused}
-use Rattle.hn_lab.specs.Choosing.{chosen_event, MayHappen}
-use Rattle.hn_lab.specs.Ended.{Leaves}
-use Rattle.hn_lab.specs.Line.{OtherEnds}
-use Rattle.hn_lab.specs.Stage.{Stage, stage_of, words_of}
 use Rattle.hn_lab.proofs.Choosings.{has_chosen, choice_refused, choice_left}
 use Rattle.hn_lab.proofs.RunAnswers.{no_memory, answer_on}
 use Rattle.hn_lab.proofs.choosing.address.Goals as goal

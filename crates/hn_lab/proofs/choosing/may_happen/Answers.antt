@@ -1,9 +1,5 @@
-use Rattle.std.proofs.Common.{Option, None, Some, sym, subst}
-use Rattle.hn_world.specs.declared.event.WEvent.{WEvent}
-use Rattle.hn_lab.specs.Choosing.{MayHappen}
-use Rattle.hn_lab.specs.Delivery.{EventEnds}
-use Rattle.hn_lab.specs.Ended.{IsAnswered}
-use Rattle.hn_lab.specs.Stage.{stage_of}
+use Rattle.hn_base.proofs.Names.{Option, None, Some, sym, subst}
+use Rattle.hn_lab.proofs.Names.{WEvent, MayHappen, EventEnds, IsAnswered, stage_of}
 use Rattle.hn_lab.proofs.RunAnswers.{answered_as}
 use Rattle.hn_lab.proofs.choosing.may_happen.Goals as goal
 

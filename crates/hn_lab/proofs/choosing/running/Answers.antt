@@ -1,5 +1,5 @@
-use Rattle.hn_base.specs.Name.{name_text}
-use Rattle.hn_world.specs.Names.{member_named}
+use Rattle.hn_base.proofs.Names.{name_text}
+use Rattle.hn_lab.proofs.Names.{member_named}
 use Rattle.hn_lab.proofs.TextReports.{member_of}
 use Rattle.hn_lab.proofs.choosing.running.Goals as goal
 

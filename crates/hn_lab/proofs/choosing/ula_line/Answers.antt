@@ -1,7 +1,5 @@
-use Rattle.std.proofs.Common.{◌≡◌, ◌∷◌, [], append_assoc}
-use Rattle.std.specs.Prelude.{string_bytes}
-use Rattle.std.proofs.lemmas.Result.{IfOk-weaker}
-use Rattle.hn_lab.specs.UlaReports.{ula_line}
+use Rattle.hn_base.proofs.Names.{◌≡◌, ◌∷◌, [], append_assoc, IfOk-weaker}
+use Rattle.hn_lab.proofs.Names.{string_bytes, ula_line}
 use Rattle.hn_lab.proofs.choosing.ula_line.Goals as goal
 
 pub returns : goal.returns

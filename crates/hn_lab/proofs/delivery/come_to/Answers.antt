@@ -1,8 +1,5 @@
-use Rattle.std.proofs.Common.{None, sym, subst}
-use Rattle.hn_lab.specs.declared.carrying.Carried.{Carried}
-use Rattle.hn_lab.specs.declared.carrying.Carried.TheVariants.{Other}
-use Rattle.hn_lab.specs.Delivery.{Replaces, IsReplaced, ComesTo, ComesToSome, injection_for}
-use Rattle.hn_lab.specs.Stage.{stage_of}
+use Rattle.hn_base.proofs.Names.{None, sym, subst}
+use Rattle.hn_lab.proofs.Names.{Carried, Other, Replaces, IsReplaced, ComesTo, ComesToSome, injection_for, stage_of}
 use Rattle.hn_lab.proofs.RunAnswers.{answered_as}
 use Rattle.hn_lab.proofs.RunDeliveries.{IsComing}
 use Rattle.hn_lab.proofs.delivery.come_to.Goals as goal

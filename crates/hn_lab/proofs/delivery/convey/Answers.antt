@@ -1,7 +1,5 @@
-use Rattle.std.proofs.Common.{List, Err, ℕ, refl, ap, subst}
-use Rattle.hn_world.specs.Refusal.{copy_at}
-use Rattle.hn_lab.specs.Carrying.{Carries, Breaks}
-use Rattle.hn_lab.specs.Stage.{stage_of}
+use Rattle.hn_base.proofs.Names.{List, Err, ℕ, refl, ap, subst}
+use Rattle.hn_lab.proofs.Names.{copy_at, Carries, Breaks, stage_of}
 use Rattle.hn_lab.proofs.RunDeliveries.{delivered_copy, bytes_of_copy, short_copy, conveyed_ends, broken, delivery_starved}
 use Rattle.hn_lab.proofs.delivery.convey.Goals as goal
 

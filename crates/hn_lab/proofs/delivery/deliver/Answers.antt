@@ -1,5 +1,5 @@
-use Rattle.std.proofs.Common.{◌∙◌, sym}
-use Rattle.hn_lab.specs.Stage.{stage_of}
+use Rattle.hn_base.proofs.Names.{◌∙◌, sym}
+use Rattle.hn_lab.proofs.Names.{stage_of}
 use Rattle.hn_lab.proofs.RunDeliveries.{undelivered, not_refused}
 use Rattle.hn_lab.proofs.delivery.deliver.Goals as goal
 

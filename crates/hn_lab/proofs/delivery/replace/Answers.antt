@@ -1,7 +1,6 @@
-use Rattle.std.proofs.Common.{◌≡◌, Some}
+use Rattle.hn_base.proofs.Names.{◌≡◌, Some}
+use Rattle.hn_lab.proofs.Names.{injection_for, stage_of}
 use Rattle.hn_world.specs.declared.event.WEvent.TheVariants as event
-use Rattle.hn_lab.specs.Delivery.{injection_for}
-use Rattle.hn_lab.specs.Stage.{stage_of}
 use Rattle.hn_lab.proofs.RunDeliveries.{injected_for, replaced, not_dropped}
 use Rattle.hn_lab.proofs.delivery.replace.Goals as goal
 

@@ -1,9 +1,5 @@
-use Rattle.std.proofs.Common.{◌∙◌, [], sym, refl, arith}
-use Rattle.hn_io.specs.declared.fault.IoFault.TheVariants.{Failed}
-use Rattle.hn_world.specs.Waiting.{first_waiting}
-use Rattle.hn_lab.specs.declared.end.Stop.TheVariants.{Cut}
-use Rattle.hn_lab.specs.Events.{CopyEnds, HasWaiting, Flow}
-use Rattle.hn_lab.specs.Stage.{stage_of}
+use Rattle.hn_base.proofs.Names.{◌∙◌, [], sym, refl, arith}
+use Rattle.hn_lab.proofs.Names.{Failed, first_waiting, Cut, CopyEnds, HasWaiting, Flow, stage_of}
 use Rattle.hn_lab.proofs.RunCopies.{some_waits, none_waits}
 use Rattle.hn_lab.proofs.RunTimes.{once_more}
 use Rattle.hn_lab.proofs.RunStops.{handed_on, no_other_error, stopped_within}

@@ -1,8 +1,5 @@
-use Rattle.std.proofs.Common.{◌≡◌, ◌≤◌, ◌-◌, ℕ, List, length}
-use Rattle.hn_lab.specs.Events.{HasWaiting, CopyEnds}
-use Rattle.hn_lab.specs.Process.{Times}
-use Rattle.hn_lab.specs.Stage.{stage_of}
-use Rattle.hn_lab.specs.Told.{Told}
+use Rattle.hn_base.proofs.Names.{◌≡◌, ◌≤◌, ◌-◌, ℕ, List, length}
+use Rattle.hn_lab.proofs.Names.{HasWaiting, CopyEnds, Times, stage_of, Told}
 use Rattle.hn_lab.proofs.flow.flow.Given as goal
 
 -- the copies so far are treated

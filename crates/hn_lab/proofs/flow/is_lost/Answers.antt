@@ -1,5 +1,5 @@
-use Rattle.std.proofs.Common.{◌∙◌, sym, refl}
-use Rattle.hn_lab.specs.Stage.{stage_of}
+use Rattle.hn_base.proofs.Names.{◌∙◌, sym, refl}
+use Rattle.hn_lab.proofs.Names.{stage_of}
 use Rattle.hn_lab.proofs.RunCopies.{away_of, when_near}
 use Rattle.hn_lab.proofs.flow.is_lost.Goals as goal
 

@@ -1,4 +1,4 @@
-use Rattle.hn_lab.specs.Stage.{words_of}
+use Rattle.hn_lab.proofs.Names.{words_of}
 use Rattle.hn_lab.proofs.RunCopies.{words_drawn}
 use Rattle.hn_lab.proofs.flow.loses.Goals as goal
 

@@ -1,9 +1,6 @@
-use Rattle.std.proofs.Common.{Bool, true, false, None, sym, refl, subst}
+use Rattle.hn_base.proofs.Names.{Bool, true, false, None, sym, refl, subst}
+use Rattle.hn_lab.proofs.Names.{Delivers, Ended, TreatmentEnds, stage_of}
 use Rattle.hn_world.specs.declared.event.WEvent.TheVariants as event
-use Rattle.hn_lab.specs.Delivery.{Delivers}
-use Rattle.hn_lab.specs.Ended.{Ended}
-use Rattle.hn_lab.specs.Events.{TreatmentEnds}
-use Rattle.hn_lab.specs.Stage.{stage_of}
 use Rattle.hn_lab.proofs.RunEvents.{event_ends}
 use Rattle.hn_lab.proofs.RunStops.{handed_on, stopped_within}
 use Rattle.hn_lab.proofs.flow.treat.Goals as goal

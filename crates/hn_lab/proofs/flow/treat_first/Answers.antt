@@ -1,6 +1,5 @@
-use Rattle.std.proofs.Common.{refl}
-use Rattle.hn_lab.specs.Events.{TreatmentEnds, CopyEnds}
-use Rattle.hn_lab.specs.Stage.{stage_of}
+use Rattle.hn_base.proofs.Names.{refl}
+use Rattle.hn_lab.proofs.Names.{TreatmentEnds, CopyEnds, stage_of}
 use Rattle.hn_lab.proofs.RunCopies.{some_copy, copy_ends}
 use Rattle.hn_lab.proofs.RunStops.{ended_within}
 use Rattle.hn_lab.proofs.flow.treat_first.Goals as goal

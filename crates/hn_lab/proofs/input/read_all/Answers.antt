@@ -1,4 +1,5 @@
-use Rattle.std.proofs.Common.{ℕ, ◌≤◌, ◌++◌, length, take, arith, length-append, length-take}
+use Rattle.hn_base.proofs.Names.{ℕ, ◌≤◌, ◌++◌, length, take, arith, length-append}
+use Rattle.std.proofs.Common.{length-take}
 use Rattle.hn_lab.proofs.TextStreams.{Consumes-more}
 use Rattle.hn_lab.proofs.input.read_all.Goals as goal
 

@@ -1,5 +1,4 @@
-use Rattle.std.proofs.Common.{◌≡◌, ◌≤◌, ◌+◌, ◌-◌, length}
-use Rattle.std.specs.Io.KnownBytes.{Consumes}
+use Rattle.hn_base.proofs.Names.{◌≡◌, ◌≤◌, ◌+◌, ◌-◌, length, Consumes}
 use Rattle.hn_script.specs.declared.script.TheConstants.{SOURCE_LIMIT}
 use Rattle.hn_lab.proofs.input.read_all.Given as goal
 

@@ -1,4 +1,4 @@
-use Rattle.hn_lab.specs.Stage.{stage_of}
+use Rattle.hn_lab.proofs.Names.{stage_of}
 use Rattle.hn_lab.proofs.LineEnds.{act_of}
 use Rattle.hn_lab.proofs.line.act.Goals as goal
 

@@ -1,16 +1,6 @@
-use Rattle.std.proofs.Common.{rules, ◌≡◌, ◌∙◌, ℕ, List, [], Option, inl, refl, ap, subst}
-use Rattle.std.specs.Option.{option_map}
-use Rattle.hn_base.specs.declared.name.Name.{Name}
-use Rattle.hn_io.specs.declared.fault.IoFault.TheVariants.{NoMemory}
+use Rattle.hn_base.proofs.Names.{rules, ◌≡◌, ◌∙◌, ℕ, List, [], Option, inl, refl, ap, subst, option_map}
+use Rattle.hn_lab.proofs.Names.{Name, NoMemory, CopyInfo, copy_at, Cut, DeliveryEnds, Delivers, OtherEnds, receiver, ThenProcess, stage_of, note_lines, TellsLines}
 use Rattle.hn_script.specs.declared.line.Line.TheVariants as line
-use Rattle.hn_world.specs.declared.copies.CopyInfo.{CopyInfo}
-use Rattle.hn_world.specs.Refusal.{copy_at}
-use Rattle.hn_lab.specs.declared.end.Stop.TheVariants.{Cut}
-use Rattle.hn_lab.specs.Delivery.{DeliveryEnds, Delivers}
-use Rattle.hn_lab.specs.Line.{OtherEnds, receiver}
-use Rattle.hn_lab.specs.Process.{ThenProcess}
-use Rattle.hn_lab.specs.Stage.{stage_of}
-use Rattle.hn_lab.specs.Tells.{note_lines, TellsLines}
 use Rattle.hn_lab.proofs.RunDeliveries.{receiver_is}
 use Rattle.hn_lab.proofs.RunStops.{leaving_on, starved, stopped_within, lines_left}
 use Rattle.hn_lab.proofs.line.delivered.Goals as goal

@@ -1,8 +1,6 @@
-use Rattle.std.proofs.Common.{refl}
+use Rattle.hn_base.proofs.Names.{refl}
+use Rattle.hn_lab.proofs.Names.{Flow, OtherEnds, stage_of}
 use Rattle.hn_script.specs.declared.line.Line.TheVariants as line
-use Rattle.hn_lab.specs.Events.{Flow}
-use Rattle.hn_lab.specs.Line.{OtherEnds}
-use Rattle.hn_lab.specs.Stage.{stage_of}
 use Rattle.hn_lab.proofs.RunStops.{leaving_on, nothing_left, stopped_within}
 use Rattle.hn_lab.proofs.line.flow_all.Goals as goal
 

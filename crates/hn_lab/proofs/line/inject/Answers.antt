@@ -1,13 +1,6 @@
-use Rattle.std.proofs.Common.{◌∙◌, ℕ, List, Some, None, inl, ap, subst}
+use Rattle.hn_base.proofs.Names.{◌∙◌, ℕ, List, Some, None, inl, ap, subst}
+use Rattle.hn_lab.proofs.Names.{WEvent, Refused, EventNotes, EventEnds, Leaves, OtherEnds, injection, ThenProcess, stage_of, note_lines, TellsLines}
 use Rattle.hn_script.specs.declared.line.Line.TheVariants as line
-use Rattle.hn_world.specs.declared.event.WEvent.{WEvent}
-use Rattle.hn_lab.specs.declared.end.Stop.TheVariants.{Refused}
-use Rattle.hn_lab.specs.Delivery.{EventNotes, EventEnds}
-use Rattle.hn_lab.specs.Ended.{Leaves}
-use Rattle.hn_lab.specs.Line.{OtherEnds, injection}
-use Rattle.hn_lab.specs.Process.{ThenProcess}
-use Rattle.hn_lab.specs.Stage.{stage_of}
-use Rattle.hn_lab.specs.Tells.{note_lines, TellsLines}
 use Rattle.hn_lab.proofs.RunAnswers.{no_memory, answer_on}
 use Rattle.hn_lab.proofs.RunStops.{lines_left}
 use Rattle.hn_lab.proofs.line.inject.Goals as goal

@@ -1,8 +1,5 @@
-use Rattle.std.proofs.Common.{refl, sym, subst}
-use Rattle.hn_script.specs.declared.line.Line.{Line}
-use Rattle.hn_lab.specs.Ended.{Leaves, EndsLeaving}
-use Rattle.hn_lab.specs.Line.{OtherEnds}
-use Rattle.hn_lab.specs.Stage.{stage_of}
+use Rattle.hn_base.proofs.Names.{refl, sym, subst}
+use Rattle.hn_lab.proofs.Names.{Line, Leaves, EndsLeaving, OtherEnds, stage_of}
 use Rattle.hn_lab.proofs.LineEnds.{act_cut, acts}
 use Rattle.hn_lab.proofs.RunAnswers.{leaves_so}
 use Rattle.hn_lab.proofs.line.other.Goals as goal

@@ -1,12 +1,5 @@
-use Rattle.std.proofs.Common.{◌≡◌, ◌∙◌, Option, None, sym, subst, refl}
-use Rattle.hn_script.specs.declared.line.Line.{Line}
-use Rattle.hn_world.specs.declared.event.WEvent.{WEvent}
-use Rattle.hn_lab.specs.declared.end.Stop.{Stop}
-use Rattle.hn_lab.specs.Delivery.{EventEnds}
-use Rattle.hn_lab.specs.Events.{Runs}
-use Rattle.hn_lab.specs.Line.{LineEnds, EndsAs, EndsBy, Follows, event_of, report_of}
-use Rattle.hn_lab.specs.Process.{ThenProcess}
-use Rattle.hn_lab.specs.Stage.{Stage, stage_of}
+use Rattle.hn_base.proofs.Names.{◌≡◌, ◌∙◌, Option, None, sym, subst, refl}
+use Rattle.hn_lab.proofs.Names.{Line, WEvent, Stop, EventEnds, Runs, LineEnds, EndsAs, EndsBy, Follows, event_of, report_of, ThenProcess, Stage, stage_of}
 use Rattle.hn_lab.proofs.RunWrites.{writing_as}
 use Rattle.hn_lab.proofs.line.play_line.Goals as goal
 

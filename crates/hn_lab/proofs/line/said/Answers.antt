@@ -1,9 +1,5 @@
-use Rattle.std.proofs.Common.{◌≡◌, ◌∙◌, Option, None, Some, inl, sym, refl, subst}
-use Rattle.hn_lab.specs.declared.report.Report.{Report}
-use Rattle.hn_lab.specs.Ended.{EndsLeaving}
-use Rattle.hn_lab.specs.Line.{EndsAs, OtherEnds, report_of}
-use Rattle.hn_lab.specs.Report.{ReportEnds}
-use Rattle.hn_lab.specs.Stage.{stage_of}
+use Rattle.hn_base.proofs.Names.{◌≡◌, ◌∙◌, Option, None, Some, inl, sym, refl, subst}
+use Rattle.hn_lab.proofs.Names.{Report, EndsLeaving, EndsAs, OtherEnds, report_of, ReportEnds, stage_of}
 use Rattle.hn_lab.proofs.LineEnds.{report_answered}
 use Rattle.hn_lab.proofs.RunAnswers.{leaves_so}
 use Rattle.hn_lab.proofs.RunStops.{leaving_within}

@@ -1,8 +1,6 @@
-use Rattle.std.proofs.Common.{ℕ, refl, ap}
+use Rattle.hn_base.proofs.Names.{ℕ, refl, ap}
+use Rattle.hn_lab.proofs.Names.{OtherEnds, stage_of, Playing}
 use Rattle.hn_script.specs.declared.line.Line.TheVariants as line
-use Rattle.hn_lab.specs.Line.{OtherEnds}
-use Rattle.hn_lab.specs.Stage.{stage_of}
-use Rattle.hn_lab.specs.declared.playing.Playing.{Playing}
 use Rattle.hn_lab.proofs.RunStops.{nothing_left}
 use Rattle.hn_lab.proofs.line.seed.Goals as goal
 

@@ -1,8 +1,5 @@
-use Rattle.std.proofs.Common.{◌≢◌, [], Err, refl, arith}
-use Rattle.hn_io.specs.declared.fault.IoFault.TheVariants.{Failed}
-use Rattle.hn_lab.specs.declared.end.Stop.TheVariants.{Cut}
-use Rattle.hn_lab.specs.Line.{EndsAs, report_of}
-use Rattle.hn_lab.specs.Stage.{stage_of}
+use Rattle.hn_base.proofs.Names.{◌≢◌, [], Err, refl, arith}
+use Rattle.hn_lab.proofs.Names.{Failed, Cut, EndsAs, report_of, stage_of}
 use Rattle.hn_lab.proofs.RunStops.{no_other_error}
 use Rattle.hn_lab.proofs.RunWrites.{lines_written, lines_cut, still_stopped, writing_on}
 use Rattle.hn_lab.proofs.line.told.Goals as goal

@@ -1,5 +1,5 @@
-use Rattle.std.proofs.Common.{◌≡◌, ◌++◌, take}
-use Rattle.std.specs.Prelude.{map}
+use Rattle.hn_base.proofs.Names.{◌≡◌, ◌++◌, take}
+use Rattle.hn_lab.proofs.Names.{map}
 use Rattle.hn_lab.specs.Reports.{note_line}
 use Rattle.hn_lab.proofs.notes.add_notes.Given as goal
 

@@ -1,6 +1,5 @@
-use Rattle.std.proofs.Common.{subst, arith}
-use Rattle.std.specs.Prelude.{string_bytes}
-use Rattle.hn_lab.specs.Output.{AppendsPart}
+use Rattle.hn_base.proofs.Names.{subst, arith}
+use Rattle.hn_lab.proofs.Names.{string_bytes, AppendsPart}
 use Rattle.hn_lab.proofs.TextLines.{cut_at}
 use Rattle.hn_base.proofs.Results.{on_err}
 use Rattle.hn_lab.proofs.output.write_lines.Goals as goal

@@ -1,7 +1,5 @@
-use Rattle.std.proofs.Common.{◌≡◌, take}
-use Rattle.std.specs.Prelude.{map, string_bytes}
-use Rattle.std.specs.Io.KnownBytes.{Appends}
-use Rattle.hn_lab.specs.Output.{joined}
+use Rattle.hn_base.proofs.Names.{◌≡◌, take, Appends}
+use Rattle.hn_lab.proofs.Names.{map, string_bytes, joined}
 use Rattle.hn_lab.proofs.output.write_lines.Given as goal
 
 -- the lines so far were written

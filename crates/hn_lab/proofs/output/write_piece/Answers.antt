@@ -1,5 +1,4 @@
-use Rattle.std.proofs.Common.{◌≡◌, ◌∙◌, ◌-◌, ◌++◌, length, take, drop, ap, sym, append_assoc}
-use Rattle.std.proofs.lemmas.List.{take-append-drop, take_rest}
+use Rattle.hn_base.proofs.Names.{◌≡◌, ◌∙◌, ◌-◌, ◌++◌, length, take, drop, ap, sym, append_assoc, take-append-drop, take_rest}
 use Rattle.hn_lab.proofs.TextStreams.{Appends-more}
 use Rattle.hn_lab.proofs.output.write_piece.Goals as goal
 

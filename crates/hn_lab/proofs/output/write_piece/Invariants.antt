@@ -1,5 +1,4 @@
-use Rattle.std.proofs.Common.{◌≡◌, List, ℕ, ◌++◌, length}
-use Rattle.std.specs.Io.KnownBytes.{Appends}
+use Rattle.hn_base.proofs.Names.{◌≡◌, List, ℕ, ◌++◌, length, Appends}
 use Rattle.hn_lab.proofs.output.write_piece.Given as goal
 
 -- a front of the piece was written, and the rest is left

@@ -1,16 +1,6 @@
-use Rattle.std.proofs.Common.{◌≡◌, ◌∙◌, ℕ, List, [], ◌∷◌, Some, Err, sym, ap, subst, append_assoc, arith}
-use Rattle.std.specs.List.{AllByRecursion}
-use Rattle.hn_base.proofs.Results.{same_error}
+use Rattle.hn_base.proofs.Names.{◌≡◌, ◌∙◌, ℕ, List, [], ◌∷◌, Some, Err, sym, ap, subst, append_assoc, arith, AllByRecursion}
+use Rattle.hn_lab.proofs.Names.{same_error, IoFault, IsLimited, IsOfVersion, Line, Stop, Cut, LineEnds, stage_of, EndsAt}
 use Rattle.hn_io.specs.Faults.{Rose}
-use Rattle.hn_io.specs.declared.fault.IoFault.{IoFault}
-use Rattle.hn_script.specs.Laws.{IsLimited}
-use Rattle.hn_script.specs.Line.{IsOfVersion}
-use Rattle.hn_script.specs.declared.line.Line.{Line}
-use Rattle.hn_lab.specs.declared.end.Stop.{Stop}
-use Rattle.hn_lab.specs.declared.end.Stop.TheVariants.{Cut}
-use Rattle.hn_lab.specs.Line.{LineEnds}
-use Rattle.hn_lab.specs.Stage.{stage_of}
-use Rattle.hn_lab.specs.Writing.{EndsAt}
 use Rattle.hn_lab.proofs.PlayLines.{reached, so_far_more, cut_refusal, starved_refusal, all_refused, all_broken, starved_so, cut_so}
 use Rattle.hn_lab.proofs.plays.play_lines.Goals as goal
 

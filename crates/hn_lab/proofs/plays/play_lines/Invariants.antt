@@ -1,10 +1,5 @@
-use Rattle.std.proofs.Common.{◌≡◌, ◌++◌, List, []}
-use Rattle.std.specs.List.{AllByRecursion}
-use Rattle.hn_base.specs.declared.version.Version.{Version}
-use Rattle.hn_script.specs.Laws.{IsLimited}
-use Rattle.hn_script.specs.Line.{IsOfVersion}
-use Rattle.hn_lab.specs.Stage.{stage_of}
-use Rattle.hn_lab.specs.Told.{Told}
+use Rattle.hn_base.proofs.Names.{◌≡◌, ◌++◌, List, [], AllByRecursion}
+use Rattle.hn_lab.proofs.Names.{Version, IsLimited, IsOfVersion, stage_of, Told}
 use Rattle.hn_lab.proofs.PlayLines.{SoFar}
 use Rattle.hn_lab.proofs.plays.play_lines.Given as goal
 

@@ -1,6 +1,5 @@
-use Rattle.std.proofs.Common.{◌≡◌, ◌++◌, take}
-use Rattle.std.specs.Prelude.{map}
-use Rattle.hn_lab.specs.PrefixReports.{prefix_line}
+use Rattle.hn_base.proofs.Names.{◌≡◌, ◌++◌, take}
+use Rattle.hn_lab.proofs.Names.{map, prefix_line}
 use Rattle.hn_lab.proofs.prefix_reports.add_prefix_lines.Given as goal
 
 -- the assignments so far have a line each

@@ -1,7 +1,5 @@
-use Rattle.std.proofs.Common.{◌≡◌, ◌++◌, [], ◌∷◌, length, take}
-use Rattle.std.specs.Prelude.{map, codes}
-use Rattle.std.specs.Fmt.{decimal}
-use Rattle.hn_base.specs.Name.{name_text}
+use Rattle.hn_base.proofs.Names.{◌≡◌, ◌++◌, [], ◌∷◌, length, take, decimal, name_text}
+use Rattle.hn_lab.proofs.Names.{map, codes}
 use Rattle.hn_lab.specs.PrefixReports.{use_line}
 use Rattle.hn_lab.proofs.prefix_reports.lines_on.Given as goal
 

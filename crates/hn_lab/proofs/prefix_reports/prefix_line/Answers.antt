@@ -1,6 +1,5 @@
-use Rattle.std.proofs.Common.{◌≡◌, append_assoc}
-use Rattle.std.specs.Prelude.{string_bytes}
-use Rattle.std.proofs.lemmas.Result.{IfOk-weaker}
+use Rattle.hn_base.proofs.Names.{◌≡◌, append_assoc, IfOk-weaker}
+use Rattle.hn_lab.proofs.Names.{string_bytes}
 use Rattle.hn_lab.proofs.PrefixTexts.{assigned_text, assigned_so}
 use Rattle.hn_lab.proofs.prefix_reports.prefix_line.Goals as goal
 

@@ -1,6 +1,5 @@
-use Rattle.std.proofs.Common.{◌≡◌, ◌∙◌, List, refl, ap, append_assoc}
-use Rattle.std.specs.Prelude.{string_bytes}
-use Rattle.hn_assign.specs.declared.assigned.Assigned.{Assigned}
+use Rattle.hn_base.proofs.Names.{◌≡◌, ◌∙◌, List, refl, ap, append_assoc}
+use Rattle.hn_lab.proofs.Names.{string_bytes, Assigned}
 use Rattle.hn_assign.specs.declared.held.Held.{Held}
 use Rattle.hn_lab.proofs.PrefixTexts.{assigned_head, assigned_lines, all_assigned}
 use Rattle.hn_lab.proofs.prefix_reports.prefixes_lines.Goals as goal

@@ -1,9 +1,7 @@
-use Rattle.std.proofs.Common.{◌≡◌, List, sym, subst}
-use Rattle.std.proofs.lemmas.Result.{IfOk-weaker}
+use Rattle.hn_base.proofs.Names.{◌≡◌, List, sym, subst, IfOk-weaker}
+use Rattle.hn_lab.proofs.Names.{seen_by, used_lines, AreUsedLines}
 use Rattle.hn_deleg.specs.Used.{AreUsable}
 use Rattle.hn_deleg.specs.declared.delegated.Delegated.{Delegated}
-use Rattle.hn_rules.specs.Seen.{seen_by}
-use Rattle.hn_lab.specs.PrefixReports.{used_lines, AreUsedLines}
 use Rattle.hn_lab.proofs.prefix_reports.used_lines.Goals as goal
 
 pub returns : goal.returns

@@ -1,8 +1,5 @@
-use Rattle.std.proofs.Common.{sym, subst}
-use Rattle.std.specs.Prelude.{IfOk}
-use Rattle.hn_lab.specs.declared.report.Report.{Report}
-use Rattle.hn_lab.specs.Report.{Tells, IsAbout, IsReport}
-use Rattle.std.proofs.lemmas.Result.{IfOk-weaker}
+use Rattle.hn_base.proofs.Names.{sym, subst, IfOk, IfOk-weaker}
+use Rattle.hn_lab.proofs.Names.{Report, Tells, IsAbout, IsReport}
 use Rattle.hn_lab.proofs.report.told.Goals as goal
 
 pub returns-in-Some : goal.returns-in-Some

@@ -1,12 +1,6 @@
 use Rattle.hn_lab.specs.declared.report.About.TheVariants as about
-use Rattle.std.proofs.Common.{◌≡◌}
-use Rattle.std.specs.Prelude.{string_bytes}
-use Rattle.hn_lab.specs.AddressReports.{IsAddressedLine}
-use Rattle.hn_lab.specs.AdvertReports.{IsAdvertLine}
-use Rattle.hn_lab.specs.AuditReports.{IsAuditLine}
-use Rattle.hn_lab.specs.PrefixReports.{IsElectLine}
-use Rattle.hn_lab.specs.Reports.{show_line, hash_line}
-use Rattle.hn_lab.specs.UlaReports.{IsUlasLine}
+use Rattle.hn_base.proofs.Names.{◌≡◌}
+use Rattle.hn_lab.proofs.Names.{string_bytes, IsAddressedLine, IsAdvertLine, IsAuditLine, IsElectLine, show_line, hash_line, IsUlasLine}
 use Rattle.hn_lab.proofs.TextReports.{told_line, told_lines}
 use Rattle.hn_lab.proofs.report.told_about.Goals as goal
 

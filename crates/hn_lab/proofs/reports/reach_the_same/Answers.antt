@@ -1,8 +1,6 @@
-use Rattle.std.proofs.Common.{◌≡◌}
+use Rattle.hn_base.proofs.Names.{◌≡◌, slice_eq-Decides, name_text}
+use Rattle.hn_lab.proofs.Names.{member_named}
 use Rattle.std.specs.Prelude.{Decides}
-use Rattle.std.proofs.lemmas.Slice.Eq.{slice_eq-Decides}
-use Rattle.hn_base.specs.Name.{name_text}
-use Rattle.hn_world.specs.Names.{member_named}
 use Rattle.hn_base.proofs.Keys.{node_decided}
 use Rattle.hn_lab.proofs.TextReports.{reach_same}
 use Rattle.hn_lab.proofs.reports.reach_the_same.Goals as goal

@@ -1,6 +1,5 @@
-use Rattle.std.proofs.Common.{◌≡◌, append_assoc, length}
-use Rattle.std.specs.Prelude.{string_bytes}
-use Rattle.std.proofs.lemmas.Result.{IfOk-weaker}
+use Rattle.hn_base.proofs.Names.{◌≡◌, append_assoc, length, IfOk-weaker}
+use Rattle.hn_lab.proofs.Names.{string_bytes}
 use Rattle.hn_lab.proofs.TextReports.{shown, shows}
 use Rattle.hn_lab.proofs.reports.show_line.Goals as goal
 

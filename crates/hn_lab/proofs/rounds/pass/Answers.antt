@@ -1,9 +1,6 @@
-use Rattle.std.proofs.Common.{◌≡◌, ◌+◌, ℕ, min, Some, None, subst, arith}
+use Rattle.hn_base.proofs.Names.{◌≡◌, ◌+◌, ℕ, min, Some, None, subst, arith}
+use Rattle.hn_lab.proofs.Names.{Refused, EventEnds, Passes, stage_of}
 use Rattle.hn_world.specs.declared.event.WEvent.TheVariants.{Time}
-use Rattle.hn_lab.specs.declared.end.Stop.TheVariants.{Refused}
-use Rattle.hn_lab.specs.Delivery.{EventEnds}
-use Rattle.hn_lab.specs.Events.{Passes}
-use Rattle.hn_lab.specs.Stage.{stage_of}
 use Rattle.hn_lab.proofs.RunAnswers.{answered_as}
 use Rattle.hn_lab.proofs.rounds.pass.Goals as goal
 

@@ -1,10 +1,5 @@
-use Rattle.std.proofs.Common.{◌≡◌, ℕ, [], None, Some, Result, Ok, Err, inl, inr, refl}
-use Rattle.hn_world.specs.declared.event.WorldFault.{WorldFault}
-use Rattle.hn_lab.specs.declared.end.Stop.{Stop}
-use Rattle.hn_lab.specs.Ended.{Ended, IsAnswered, stopping}
-use Rattle.hn_lab.specs.Events.{Passes, Ticks, Flow, Round}
-use Rattle.hn_lab.specs.Process.{Process, ThenProcess}
-use Rattle.hn_lab.specs.Stage.{Stage, stage_of}
+use Rattle.hn_base.proofs.Names.{◌≡◌, ℕ, [], None, Some, Result, Ok, Err, inl, inr, refl}
+use Rattle.hn_lab.proofs.Names.{WorldFault, Stop, Ended, IsAnswered, stopping, Passes, Ticks, Flow, Round, Process, ThenProcess, Stage, stage_of}
 use Rattle.hn_lab.proofs.RunAnswers.{ends_so}
 use Rattle.hn_lab.proofs.RunTimes.{then_assoc}
 use Rattle.hn_lab.proofs.RunWrites.{still_done, still_stopped, still_writes, first_stops, goes_on, then_writes, writing_as, writing_on}

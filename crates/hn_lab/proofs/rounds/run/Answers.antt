@@ -1,8 +1,5 @@
-use Rattle.std.proofs.Common.{◌<◌, ◌≤◌, ◌∙◌, ℕ, None, Some, inl, inr, refl, sym, subst, arith}
-use Rattle.hn_lab.specs.declared.end.Stop.TheVariants.{Refused}
-use Rattle.hn_lab.specs.Events.{Round, Runs}
-use Rattle.hn_lab.specs.Process.{Process}
-use Rattle.hn_lab.specs.Stage.{Stage, stage_of}
+use Rattle.hn_base.proofs.Names.{◌<◌, ◌≤◌, ◌∙◌, ℕ, None, Some, inl, inr, refl, sym, subst, arith}
+use Rattle.hn_lab.proofs.Names.{Refused, Round, Runs, Process, Stage, stage_of}
 use Rattle.hn_lab.proofs.RunStops.{stopped_last}
 use Rattle.hn_lab.proofs.RunTimes.{SomeTimes, round_more}
 use Rattle.hn_lab.proofs.RunWrites.{ends_as, goes_on, last_of, still_done, still_stopped, writing_on}

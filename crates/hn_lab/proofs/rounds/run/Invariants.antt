@@ -1,8 +1,5 @@
-use Rattle.std.proofs.Common.{◌≡◌, ◌<◌, ◌-◌, List, None, length}
-use Rattle.hn_lab.specs.Events.{Round}
-use Rattle.hn_lab.specs.Stage.{Stage, stage_of}
-use Rattle.hn_lab.specs.Told.{Told}
-use Rattle.hn_lab.specs.Writing.{EndsAt}
+use Rattle.hn_base.proofs.Names.{◌≡◌, ◌<◌, ◌-◌, List, None, length}
+use Rattle.hn_lab.proofs.Names.{Round, Stage, stage_of, Told, EndsAt}
 use Rattle.hn_lab.proofs.RunTimes.{SomeTimes}
 use Rattle.hn_lab.proofs.rounds.run.Given as goal
 

@@ -1,12 +1,5 @@
-use Rattle.std.proofs.Common.{◌∙◌, List, [], inl, refl, subst}
-use Rattle.hn_base.specs.declared.name.Name.{Name}
-use Rattle.hn_io.specs.declared.fault.IoFault.TheVariants.{NoMemory}
-use Rattle.hn_world.specs.Receivers.{running_names}
-use Rattle.hn_lab.specs.declared.end.Stop.TheVariants.{Cut}
-use Rattle.hn_lab.specs.Events.{Ticks}
-use Rattle.hn_lab.specs.Process.{EachProcess}
-use Rattle.hn_lab.specs.Sending.{TickEnds}
-use Rattle.hn_lab.specs.Stage.{stage_of}
+use Rattle.hn_base.proofs.Names.{◌∙◌, List, [], inl, refl, subst}
+use Rattle.hn_lab.proofs.Names.{Name, NoMemory, running_names, Cut, Ticks, EachProcess, TickEnds, stage_of}
 use Rattle.hn_lab.proofs.RunEach.{each_starved}
 use Rattle.hn_lab.proofs.RunWrites.{starves, writing_as, writing_on}
 use Rattle.hn_lab.proofs.rounds.ticks.Goals as goal

@@ -1,9 +1,5 @@
-use Rattle.std.proofs.Common.{◌∙◌, None, Some, subst, arith}
-use Rattle.hn_base.specs.declared.name.Name.{Name}
-use Rattle.hn_lab.specs.Process.{EachProcess}
-use Rattle.hn_lab.specs.Sending.{TickEnds}
-use Rattle.hn_lab.specs.Stage.{stage_of}
-use Rattle.hn_lab.specs.Writing.{EndsAt}
+use Rattle.hn_base.proofs.Names.{◌∙◌, None, Some, subst, arith}
+use Rattle.hn_lab.proofs.Names.{Name, EachProcess, TickEnds, stage_of, EndsAt}
 use Rattle.hn_lab.proofs.RunEach.{each_further, each_stopped, each_done}
 use Rattle.hn_lab.proofs.RunWrites.{writing_on}
 use Rattle.hn_lab.proofs.rounds.ticks_of.Goals as goal

@@ -1,9 +1,5 @@
-use Rattle.std.proofs.Common.{◌≡◌, ◌≤◌, List, None, length, take}
-use Rattle.hn_lab.specs.Process.{EachProcess}
-use Rattle.hn_lab.specs.Sending.{TickEnds}
-use Rattle.hn_lab.specs.Stage.{Route, stage_of}
-use Rattle.hn_lab.specs.Told.{Told}
-use Rattle.hn_lab.specs.Writing.{EndsAt}
+use Rattle.hn_base.proofs.Names.{◌≡◌, ◌≤◌, List, None, length, take}
+use Rattle.hn_lab.proofs.Names.{EachProcess, TickEnds, Route, stage_of, Told, EndsAt}
 use Rattle.hn_lab.proofs.rounds.ticks_of.Given as goal
 
 -- the routers so far have ticked

@@ -1,7 +1,5 @@
-use Rattle.std.proofs.Common.{ℕ, List, Option, refl, subst, lit<, arith}
-use Rattle.std.specs.Io.KnownBytes.{Appends}
-use Rattle.hn_lab.specs.Lab.{IsLabOf, IsLabRun, StatusOfScript}
-use Rattle.hn_lab.specs.Stage.{Mail, route_of}
+use Rattle.hn_base.proofs.Names.{ℕ, List, Option, refl, subst, lit<, arith, Appends}
+use Rattle.hn_lab.proofs.Names.{IsLabOf, IsLabRun, StatusOfScript, Mail, route_of}
 use Rattle.hn_lab.proofs.PlayScripts.{lab_run, starved_run, appends_nothing, among_all}
 use Rattle.hn_lab.proofs.scripts.lab.Goals as goal
 

@@ -1,7 +1,5 @@
-use Rattle.std.proofs.Common.{◌∙◌, ℕ, List, Option, Some, ap, sym, subst}
-use Rattle.std.specs.Io.KnownBytes.{Appends}
-use Rattle.hn_lab.specs.Lab.{HasDonePlay, HasRefusal, Plays}
-use Rattle.hn_lab.specs.Stage.{Mail, route_of}
+use Rattle.hn_base.proofs.Names.{◌∙◌, ℕ, List, Option, Some, ap, sym, subst, Appends}
+use Rattle.hn_lab.proofs.Names.{HasDonePlay, HasRefusal, Plays, Mail, route_of}
 use Rattle.hn_lab.proofs.scripts.play.Goals as goal
 
 pub returns-in-None-clause-plays : goal.returns-in-None-clause-plays

@@ -1,6 +1,5 @@
-use Rattle.std.proofs.Common.{[], Err, inl, inr, refl, ap, subst, arith}
-use Rattle.hn_lab.specs.Lab.{HasDonePlay, HasRefusal}
-use Rattle.hn_lab.specs.Stage.{route_of}
+use Rattle.hn_base.proofs.Names.{[], Err, inl, inr, refl, ap, subst, arith}
+use Rattle.hn_lab.proofs.Names.{HasDonePlay, HasRefusal, route_of}
 use Rattle.hn_lab.proofs.PlayScripts.{among_more, appends_nothing}
 use Rattle.hn_lab.proofs.scripts.play_bytes.Goals as goal
 

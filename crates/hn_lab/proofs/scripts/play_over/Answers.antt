@@ -1,12 +1,5 @@
-use Rattle.std.proofs.Common.{rules, ◌≡◌, ◌∙◌, ℕ, List, [], Some, refl, sym, subst}
-use Rattle.std.specs.Io.KnownBytes.{Appends}
-use Rattle.std.specs.List.{AllByRecursion}
-use Rattle.hn_base.specs.declared.version.Version.{Version}
-use Rattle.hn_script.specs.Line.{IsOfVersion}
-use Rattle.hn_script.specs.declared.line.Line.{Line}
-use Rattle.hn_script.specs.declared.script.Script.{Script}
-use Rattle.hn_lab.specs.Lab.{HasDonePlay, HasRefusal, Plays}
-use Rattle.hn_lab.specs.Stage.{stage_of}
+use Rattle.hn_base.proofs.Names.{rules, ◌≡◌, ◌∙◌, ℕ, List, [], Some, refl, sym, subst, Appends, AllByRecursion}
+use Rattle.hn_lab.proofs.Names.{Version, IsOfVersion, Line, Script, HasDonePlay, HasRefusal, Plays, stage_of}
 use Rattle.hn_lab.proofs.PlayScripts.{not_refused, not_done, plays_out, starves}
 use Rattle.hn_lab.proofs.scripts.play_over.Goals as goal
 

@@ -1,15 +1,6 @@
-use Rattle.std.proofs.Common.{◌≡◌, ℕ, List, [], Option, None, Result, inl, refl, sym, subst}
-use Rattle.hn_world.specs.declared.event.WEvent.{WEvent}
+use Rattle.hn_base.proofs.Names.{◌≡◌, ℕ, List, [], Option, None, Result, inl, refl, sym, subst}
+use Rattle.hn_lab.proofs.Names.{WEvent, WorldFault, Stop, EventEnds, Follows, Sets, IsAnswered, stopping, Process, ThenProcess, TickEnds, ending, ending_all, Stage, stage_of, EndsWriting}
 use Rattle.hn_world.specs.declared.event.WEvent.TheVariants as event
-use Rattle.hn_world.specs.declared.event.WorldFault.{WorldFault}
-use Rattle.hn_lab.specs.declared.end.Stop.{Stop}
-use Rattle.hn_lab.specs.Delivery.{EventEnds}
-use Rattle.hn_lab.specs.Line.{Follows, Sets}
-use Rattle.hn_lab.specs.Ended.{IsAnswered, stopping}
-use Rattle.hn_lab.specs.Process.{Process, ThenProcess}
-use Rattle.hn_lab.specs.Sending.{TickEnds, ending, ending_all}
-use Rattle.hn_lab.specs.Stage.{Stage, stage_of}
-use Rattle.hn_lab.specs.Writing.{EndsWriting}
 use Rattle.hn_lab.proofs.RunAnswers.{ends_so}
 use Rattle.hn_lab.proofs.RunEvents.{event_ends}
 use Rattle.hn_lab.proofs.RunTurns.{none_follows}

@@ -1,6 +1,5 @@
-use Rattle.std.proofs.Common.{true, List, refl, ap}
-use Rattle.hn_lab.specs.declared.senders.Sending.{Sending}
-use Rattle.hn_lab.specs.Stage.{stage_of, words_of}
+use Rattle.hn_base.proofs.Names.{true, List, refl, ap}
+use Rattle.hn_lab.proofs.Names.{Sending, stage_of, words_of}
 use Rattle.hn_lab.proofs.RunTurns.{goes}
 use Rattle.hn_lab.proofs.sending.is_due.Goals as goal
 

@@ -1,8 +1,6 @@
-use Rattle.std.proofs.Common.{◌∙◌, List, inl, refl, sym, ap}
+use Rattle.hn_base.proofs.Names.{◌∙◌, List, inl, refl, sym, ap}
+use Rattle.hn_lab.proofs.Names.{Sending, OtherEnds, stage_of}
 use Rattle.hn_script.specs.declared.line.Line.TheVariants as line
-use Rattle.hn_lab.specs.declared.senders.Sending.{Sending}
-use Rattle.hn_lab.specs.Line.{OtherEnds}
-use Rattle.hn_lab.specs.Stage.{stage_of}
 use Rattle.hn_lab.proofs.RunAnswers.{no_memory}
 use Rattle.hn_lab.proofs.RunTurns.{radv_left}
 use Rattle.hn_lab.proofs.sending.radv.Goals as goal

@@ -1,10 +1,5 @@
-use Rattle.std.proofs.Common.{List, None, inl, refl, ap}
-use Rattle.hn_lab.specs.declared.senders.Sending.{Sending}
-use Rattle.hn_lab.specs.Delivery.{EventEnds}
-use Rattle.hn_lab.specs.Line.{Sets}
-use Rattle.hn_lab.specs.Process.{Process, ThenProcess}
-use Rattle.hn_lab.specs.Sending.{ending_all}
-use Rattle.hn_lab.specs.Stage.{stage_of}
+use Rattle.hn_base.proofs.Names.{List, None, inl, refl, ap}
+use Rattle.hn_lab.proofs.Names.{Sending, EventEnds, Sets, Process, ThenProcess, ending_all, stage_of}
 use Rattle.hn_lab.proofs.RunAnswers.{answer_on}
 use Rattle.hn_lab.proofs.sending.silence.Goals as goal
 

@@ -1,7 +1,5 @@
-use Rattle.std.proofs.Common.{◌∙◌, List, inl, inr, refl, sym, ap}
-use Rattle.hn_lab.specs.declared.playing.Playing.{Playing}
-use Rattle.hn_lab.specs.declared.senders.Sending.{Sending}
-use Rattle.hn_lab.specs.Stage.{stage_of, words_of}
+use Rattle.hn_base.proofs.Names.{◌∙◌, List, inl, inr, refl, sym, ap}
+use Rattle.hn_lab.proofs.Names.{Playing, Sending, stage_of, words_of}
 use Rattle.hn_lab.proofs.RunTurns.{is_solicited, solicit_left}
 use Rattle.hn_lab.proofs.sending.solicit.Goals.{in-Some-place_of, in_default-place_of}
 use Rattle.hn_lab.proofs.sending.solicit.Goals as goal

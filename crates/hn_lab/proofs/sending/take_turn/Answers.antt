@@ -1,14 +1,5 @@
-use Rattle.std.proofs.Common.{◌≡◌, ◌∙◌, ℕ, true, false, List, [], ◌∷◌, inl, inr, sym, ap, subst}
-use Rattle.std.specs.Prelude.{string_bytes}
-use Rattle.hn_advert.specs.Advert.{IsAdvert, advert_bytes}
-use Rattle.hn_base.specs.Name.{name_text}
-use Rattle.hn_world.specs.Names.{member_named}
-use Rattle.hn_world.specs.declared.parts.Parts.{Parts}
-use Rattle.hn_lab.specs.declared.senders.Shape.{Shape}
-use Rattle.hn_lab.specs.Ended.{Leaves}
-use Rattle.hn_lab.specs.Senders.{shape_of}
-use Rattle.hn_lab.specs.Sending.{ra_line, IsDue, TurnEnds}
-use Rattle.hn_lab.specs.Stage.{stage_of}
+use Rattle.hn_base.proofs.Names.{◌≡◌, ◌∙◌, ℕ, true, false, List, [], ◌∷◌, inl, inr, sym, ap, subst, name_text}
+use Rattle.hn_lab.proofs.Names.{string_bytes, IsAdvert, advert_bytes, member_named, Parts, Shape, Leaves, shape_of, ra_line, IsDue, TurnEnds, stage_of}
 use Rattle.hn_lab.proofs.RunTurns.{no_member, no_turn, found_at, turn_left}
 use Rattle.hn_lab.proofs.TextReports.{member_of}
 use Rattle.hn_lab.proofs.sending.take_turn.Goals as goal

@@ -1,12 +1,6 @@
-use Rattle.std.proofs.Common.{◌∙◌, List, [], Ok, Err, inl, refl, subst}
-use Rattle.hn_base.specs.declared.ids.EpId.{EpId}
-use Rattle.hn_io.specs.declared.fault.IoFault.TheVariants.{NoMemory}
+use Rattle.hn_base.proofs.Names.{◌∙◌, List, [], Ok, Err, inl, refl, subst}
+use Rattle.hn_lab.proofs.Names.{EpId, NoMemory, Cut, EventEnds, EachProcess, TurnEnds, Turns, TickEnds, stage_of}
 use Rattle.hn_world.specs.declared.event.WEvent.TheVariants as event
-use Rattle.hn_lab.specs.declared.end.Stop.TheVariants.{Cut}
-use Rattle.hn_lab.specs.Delivery.{EventEnds}
-use Rattle.hn_lab.specs.Process.{EachProcess}
-use Rattle.hn_lab.specs.Sending.{TurnEnds, Turns, TickEnds}
-use Rattle.hn_lab.specs.Stage.{stage_of}
 use Rattle.hn_lab.proofs.RunEvents.{event_ends}
 use Rattle.hn_lab.proofs.RunWrites.{starves, still_done, still_stopped, first_stops, then_writes, writing_as, writing_on}
 use Rattle.hn_lab.proofs.sending.tick.Goals as goal

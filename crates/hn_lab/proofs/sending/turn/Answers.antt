@@ -1,8 +1,5 @@
-use Rattle.std.proofs.Common.{refl}
-use Rattle.hn_io.specs.declared.fault.IoFault.TheVariants.{NoMemory}
-use Rattle.hn_lab.specs.declared.end.Stop.TheVariants.{Cut}
-use Rattle.hn_lab.specs.Sending.{TurnEnds}
-use Rattle.hn_lab.specs.Stage.{stage_of}
+use Rattle.hn_base.proofs.Names.{refl}
+use Rattle.hn_lab.proofs.Names.{NoMemory, Cut, TurnEnds, stage_of}
 use Rattle.hn_lab.proofs.RunTurns.{turn_starves}
 use Rattle.hn_lab.proofs.RunWrites.{writing_on, lines_written, lines_cut}
 use Rattle.hn_lab.proofs.sending.turn.Goals as goal

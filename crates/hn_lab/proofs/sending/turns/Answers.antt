@@ -1,8 +1,5 @@
-use Rattle.std.proofs.Common.{◌∙◌}
-use Rattle.hn_base.specs.declared.ids.EpId.{EpId}
-use Rattle.hn_lab.specs.Process.{EachProcess}
-use Rattle.hn_lab.specs.Sending.{TurnEnds}
-use Rattle.hn_lab.specs.Stage.{stage_of}
+use Rattle.hn_base.proofs.Names.{◌∙◌}
+use Rattle.hn_lab.proofs.Names.{EpId, EachProcess, TurnEnds, stage_of}
 use Rattle.hn_lab.proofs.RunEach.{each_further, each_stopped, each_done}
 use Rattle.hn_lab.proofs.RunWrites.{writing_on}
 use Rattle.hn_lab.proofs.sending.turns.Goals as goal

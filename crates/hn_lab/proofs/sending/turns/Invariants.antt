@@ -1,9 +1,5 @@
-use Rattle.std.proofs.Common.{◌≡◌, List, None, take}
-use Rattle.hn_lab.specs.Process.{EachProcess}
-use Rattle.hn_lab.specs.Sending.{TurnEnds}
-use Rattle.hn_lab.specs.Stage.{Route, stage_of}
-use Rattle.hn_lab.specs.Told.{Told}
-use Rattle.hn_lab.specs.Writing.{EndsAt}
+use Rattle.hn_base.proofs.Names.{◌≡◌, List, None, take}
+use Rattle.hn_lab.proofs.Names.{EachProcess, TurnEnds, Route, stage_of, Told, EndsAt}
 use Rattle.hn_lab.proofs.sending.turns.Given as goal
 
 -- the endpoints so far had their turns

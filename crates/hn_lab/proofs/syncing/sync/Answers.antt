@@ -1,11 +1,6 @@
-use Rattle.std.proofs.Common.{Err, refl, ap}
-use Rattle.hn_base.proofs.Results.{same_error}
+use Rattle.hn_base.proofs.Names.{Err, refl, ap}
+use Rattle.hn_lab.proofs.Names.{same_error, Playing, Leaves, OtherEnds, stage_of, words_of, SyncEnds}
 use Rattle.hn_script.specs.declared.line.Line.TheVariants as line
-use Rattle.hn_lab.specs.declared.playing.Playing.{Playing}
-use Rattle.hn_lab.specs.Ended.{Leaves}
-use Rattle.hn_lab.specs.Line.{OtherEnds}
-use Rattle.hn_lab.specs.Stage.{stage_of, words_of}
-use Rattle.hn_lab.specs.Syncing.{SyncEnds}
 use Rattle.hn_lab.proofs.RunAnswers.{answer_on}
 use Rattle.hn_lab.proofs.RunEvents.{same_stage}
 use Rattle.hn_lab.proofs.RunStops.{nothing_left}

@@ -1,7 +1,5 @@
-use Rattle.std.proofs.Common.{rules, ◌≡◌, ◌≤◌, IsTrue, false, length, arith}
-use Rattle.hn_ula.specs.Ula.{IsUlaStill}
-use Rattle.hn_audit.specs.Set.{is_in_set}
-use Rattle.hn_world.specs.declared.member.Member.{Member}
+use Rattle.hn_base.proofs.Names.{rules, ◌≡◌, ◌≤◌, IsTrue, false, length, arith}
+use Rattle.hn_lab.proofs.Names.{IsUlaStill, is_in_set, Member}
 use Rattle.hn_lab.proofs.Sets.{one_is_not, one_more, all_are}
 use Rattle.hn_lab.proofs.ula_report.all_still.Goals as goal
 

@@ -1,7 +1,5 @@
-use Rattle.std.proofs.Common.{rules, ◌≡◌, ◌+◌, IsTrue, true, false, ℕ, filter, take, subst, sym, arith}
-use Rattle.hn_audit.specs.Set.{is_in_set}
-use Rattle.hn_world.specs.declared.member.Member.{Member}
-use Rattle.hn_lab.specs.UlaReports.{HasGenerated, HaveGenerated}
+use Rattle.hn_base.proofs.Names.{rules, ◌≡◌, ◌+◌, IsTrue, true, false, ℕ, filter, take, subst, sym, arith}
+use Rattle.hn_lab.proofs.Names.{is_in_set, Member, HasGenerated, HaveGenerated}
 use Rattle.hn_lab.proofs.UlaCounts.{step_counts, step_passes}
 use Rattle.hn_lab.proofs.ula_report.generated_by.Goals as goal
 use Rattle.hn_lab.proofs.ula_report.generated_by.Goals.{then-branch, else-branch}

@@ -1,6 +1,5 @@
-use Rattle.std.proofs.Common.{◌≤◌, filter, take}
-use Rattle.hn_audit.specs.Set.{is_in_set}
-use Rattle.hn_lab.specs.UlaReports.{HaveGenerated}
+use Rattle.hn_base.proofs.Names.{◌≤◌, filter, take}
+use Rattle.hn_lab.proofs.Names.{is_in_set, HaveGenerated}
 use Rattle.hn_lab.proofs.ula_report.generated_by.Given as goal
 
 -- of those of the set so far, that many have one

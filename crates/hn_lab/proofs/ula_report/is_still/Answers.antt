@@ -1,7 +1,5 @@
-use Rattle.std.proofs.Common.{rules, ◌↔◌, IsTrue}
-use Rattle.std.proofs.lemmas.Result.{IfOk-weaker}
-use Rattle.hn_audit.specs.Set.{is_in_set}
-use Rattle.hn_ula.specs.Ula.{IsUlaStill}
+use Rattle.hn_base.proofs.Names.{rules, ◌↔◌, IsTrue, IfOk-weaker}
+use Rattle.hn_lab.proofs.Names.{is_in_set, IsUlaStill}
 use Rattle.hn_lab.proofs.ula_report.is_still.Goals as goal
 
 pub returns : goal.returns

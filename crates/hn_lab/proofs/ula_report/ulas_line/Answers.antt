@@ -1,5 +1,5 @@
-use Rattle.std.proofs.Common.{append_assoc}
-use Rattle.std.specs.Prelude.{string_bytes}
+use Rattle.hn_base.proofs.Names.{append_assoc}
+use Rattle.hn_lab.proofs.Names.{string_bytes}
 use Rattle.hn_lab.proofs.ula_report.ulas_line.Goals as goal
 
 pub returns : goal.returns

@@ -1,10 +1,5 @@
-use Rattle.std.proofs.Common.{rules, ◌≡◌, IsTrue, true, false, List, filter, inl, inr}
-use Rattle.hn_base.specs.Name.{name_text}
-use Rattle.hn_audit.specs.Set.{is_in_set}
-use Rattle.hn_audit.specs.Settled.{IsSettled}
-use Rattle.hn_ula.specs.Ula.{IsUlaStill}
-use Rattle.hn_world.specs.declared.member.Member.{Member}
-use Rattle.hn_lab.specs.UlaReports.{ArePrefixesStill, HaveGenerated}
+use Rattle.hn_base.proofs.Names.{rules, ◌≡◌, IsTrue, true, false, List, filter, inl, inr, name_text}
+use Rattle.hn_lab.proofs.Names.{is_in_set, IsSettled, IsUlaStill, Member, ArePrefixesStill, HaveGenerated}
 use Rattle.hn_lab.proofs.UlaSets.{ula_count}
 use Rattle.hn_lab.proofs.Sets.{IsKnown, answers_of, list_of, named_runs}
 use Rattle.hn_lab.proofs.ula_report.ulas_text.Goals as goal

@@ -1,7 +1,5 @@
-use Rattle.std.proofs.Common.{◌≡◌, get_or, IsTrue, refl}
-use Rattle.std.proofs.lemmas.Option.{slice_get-get_or}
-use Rattle.hn_data.specs.View.{plain_view}
-use Rattle.hn_base.proofs.PartsAtPlaces.{part_is}
+use Rattle.hn_base.proofs.Names.{◌≡◌, get_or, IsTrue, refl, slice_get-get_or}
+use Rattle.hn_link.proofs.Names.{plain_view, part_is}
 use Rattle.hn_link.proofs.Joined.{joined_more, joined_same, common_from_joined}
 use Rattle.hn_link.proofs.common_link.common.Goals as goal
 use Rattle.hn_link.proofs.common_link.common.Goals.{then-is_joined+in_ok-push, else-is_joined}

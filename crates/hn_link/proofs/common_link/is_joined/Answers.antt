@@ -1,4 +1,4 @@
-use Rattle.std.proofs.Common.{rules, ◌≡◌}
+use Rattle.hn_base.proofs.Names.{rules, ◌≡◌}
 use Rattle.hn_link.proofs.Joined.{joined_where_led}
 use Rattle.hn_link.proofs.common_link.is_joined.Goals as goal
 

@@ -1,9 +1,5 @@
-use Rattle.std.proofs.Common.{rules, ◌≡◌}
-use Rattle.std.specs.Option.{option_map, option_map_or}
-use Rattle.std.specs.Ordering.{ord_max}
-use Rattle.std.proofs.lemmas.Option.{slice_get-get_or}
-use Rattle.hn_data.specs.View.{plain_view}
-use Rattle.hn_link.specs.Election.{rank_cmp}
+use Rattle.hn_base.proofs.Names.{rules, ◌≡◌, option_map, option_map_or, ord_max, slice_get-get_or}
+use Rattle.hn_link.proofs.Names.{plain_view, rank_cmp}
 use Rattle.hn_link.proofs.Candidates.{candidate_more, candidate_same, outcome}
 use Rattle.hn_link.proofs.election.elected.Goals as goal
 use Rattle.hn_link.proofs.election.elected.Goals.{in-Some, in_default}

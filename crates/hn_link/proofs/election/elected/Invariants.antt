@@ -1,5 +1,4 @@
-use Rattle.hn_data.specs.View.{plain_view}
-use Rattle.hn_link.specs.Standing.{IsBestRank}
+use Rattle.hn_link.proofs.Names.{plain_view, IsBestRank}
 use Rattle.hn_link.proofs.Candidates.{RanksBefore}
 use Rattle.hn_link.proofs.election.elected.Given as goal
 

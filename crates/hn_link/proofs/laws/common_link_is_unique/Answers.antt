@@ -1,6 +1,6 @@
-use Rattle.std.proofs.lemmas.Cmp.{on_total, then_total, nat_cmp_total}
+use Rattle.hn_base.proofs.Names.{on_total, then_total, nat_cmp_total}
+use Rattle.hn_link.proofs.Names.{endpoint_cmp}
 use Rattle.hn_base.proofs.AscendingLists.{ascending_unique}
-use Rattle.hn_link.specs.CommonLink.{endpoint_cmp}
 use Rattle.hn_link.proofs.laws.common_link_is_unique.Goals as goal
 
 pub returns : goal.returns

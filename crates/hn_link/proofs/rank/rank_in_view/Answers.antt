@@ -1,10 +1,7 @@
-use Rattle.std.proofs.Common.{◌≡◌, ℕ, ◌<◌, ◌≤◌, sym, ◌∙◌, ap, subst, get_or, arith}
-use Rattle.std.proofs.lemmas.Option.{slice_get-get_or, none-some, same_Some}
-use Rattle.hn_typed.specs.Item.{PlainCaps}
+use Rattle.hn_base.proofs.Names.{◌≡◌, ℕ, ◌<◌, ◌≤◌, sym, ◌∙◌, ap, subst, get_or, arith, slice_get-get_or, none-some, same_Some}
+use Rattle.hn_link.proofs.Names.{PlainCaps, plain_view, contains_at, part_is, rank_of}
 use Rattle.hn_typed.specs.View.{plain_caps}
-use Rattle.hn_data.specs.View.{plain_view}
-use Rattle.hn_base.proofs.PartsAtPlaces.{contains_at, part_is}
-use Rattle.hn_link.specs.Election.{priority_of, rank_of}
+use Rattle.hn_link.specs.Election.{priority_of}
 use Rattle.hn_link.proofs.InView.{version_there}
 use Rattle.hn_link.proofs.rank.rank_in_view.Goals as goal
 

@@ -1,6 +1,4 @@
-use Rattle.std.proofs.Common.{◌≡◌, ◌++◌, take, string_bytes, codes}
-use Rattle.std.specs.List.{flat_map}
-use Rattle.hn_base.specs.Name.{name_text}
+use Rattle.hn_base.proofs.Names.{◌≡◌, ◌++◌, take, string_bytes, codes, flat_map, name_text}
 use Rattle.hn_look.specs.Events.{address_words}
 use Rattle.hn_look.proofs.event_text.push_addresses.Given as goal
 

@@ -1,4 +1,4 @@
-use Rattle.std.proofs.Common.{◌∙◌, Err, ap, rules}
+use Rattle.hn_base.proofs.Names.{◌∙◌, Err, ap, rules}
 use Rattle.hn_look.proofs.Replays.{same_again, not_refused}
 use Rattle.hn_look.proofs.log.again.Goals as goal
 

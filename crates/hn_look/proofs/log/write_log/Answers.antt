@@ -1,7 +1,5 @@
-use Rattle.std.proofs.Common.{◌∙◌, List, ℕ, refl, subst, rules}
-use Rattle.std.specs.Io.KnownBytes.{Appends}
-use Rattle.std.proofs.lemmas.Result.{err_from_is_err_and}
-use Rattle.hn_lab.specs.Output.{AppendsPart}
+use Rattle.hn_base.proofs.Names.{◌∙◌, List, ℕ, refl, subst, rules, Appends, err_from_is_err_and}
+use Rattle.hn_look.proofs.Names.{AppendsPart}
 use Rattle.hn_look.proofs.Replays.{begins, piece_is, goes_further, cut_in_it, starved_here, all_told}
 use Rattle.hn_look.proofs.Streams.{part_is_cut}
 use Rattle.hn_look.proofs.log.write_log.Goals as goal

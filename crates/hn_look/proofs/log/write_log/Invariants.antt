@@ -1,4 +1,4 @@
-use Rattle.std.proofs.Common.{◌≡◌}
+use Rattle.hn_base.proofs.Names.{◌≡◌}
 use Rattle.hn_look.proofs.Replays.{IsOnTheWay}
 use Rattle.hn_look.proofs.log.write_log.Given as goal
 

@@ -1,8 +1,5 @@
-use Rattle.std.proofs.Common.{List, ℕ, Err, inl, inr, subst}
-use Rattle.std.specs.Io.KnownBytes.{Appends}
-use Rattle.std.proofs.lemmas.Result.{err_from_is_err_and}
-use Rattle.hn_lab.specs.Output.{AppendsPart}
-use Rattle.hn_look.specs.Look.{Sees, MayStarve}
+use Rattle.hn_base.proofs.Names.{List, ℕ, Err, inl, inr, subst, Appends, err_from_is_err_and}
+use Rattle.hn_look.proofs.Names.{AppendsPart, Sees, MayStarve}
 use Rattle.hn_look.proofs.Looks.{whole_look, cut_look, cut_line, written_line}
 use Rattle.hn_look.proofs.Refusals.{line_found}
 use Rattle.hn_look.proofs.look.look.Goals as goal

@@ -1,5 +1,4 @@
-use Rattle.std.proofs.Common.{inl, refl}
-use Rattle.std.proofs.lemmas.Result.{err_from_is_err_and}
+use Rattle.hn_base.proofs.Names.{inl, refl, err_from_is_err_and}
 use Rattle.hn_look.proofs.look.see.Goals as goal
 
 pub returns-in_err-write_log-in-Log-clause-looked : goal.returns-in_err-write_log-in-Log-clause-looked

@@ -1,8 +1,6 @@
-use Rattle.std.proofs.Common.{sym, subst}
-use Rattle.hn_base.specs.Name.{name_text}
-use Rattle.hn_look.specs.Look.{Says, SeesTable}
+use Rattle.hn_base.proofs.Names.{sym, subst, name_text}
+use Rattle.hn_look.proofs.Names.{Says, SeesTable, IsTableText}
 use Rattle.hn_look.proofs.Looks.{looked_as, table_said}
-use Rattle.hn_table.specs.Table.{IsTableText}
 use Rattle.hn_look.proofs.named.write_table.Goals as goal
 
 pub returns-clause-looked : goal.returns-clause-looked

@@ -1,8 +1,6 @@
-use Rattle.std.proofs.Common.{sym, subst}
-use Rattle.hn_base.specs.Name.{name_text}
-use Rattle.hn_look.specs.Look.{Says, SeesWhy}
+use Rattle.hn_base.proofs.Names.{sym, subst, name_text}
+use Rattle.hn_look.proofs.Names.{Says, SeesWhy, IsWhy}
 use Rattle.hn_look.proofs.Looks.{looked_as, why_said}
-use Rattle.hn_why.specs.Why.{IsWhy}
 use Rattle.hn_look.proofs.named.write_why.Goals as goal
 
 pub returns-clause-looked : goal.returns-clause-looked

@@ -1,4 +1,4 @@
-use Rattle.std.proofs.Common.{◌≡◌, refl, rules}
+use Rattle.hn_base.proofs.Names.{◌≡◌, refl, rules}
 use Rattle.hn_look.proofs.Looks.{status_of_look, without_wire}
 use Rattle.hn_look.proofs.Refusals.{ends_so, unseen}
 use Rattle.hn_look.proofs.program.play_and_look.Goals as goal

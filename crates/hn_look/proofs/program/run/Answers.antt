@@ -1,7 +1,5 @@
-use Rattle.std.proofs.Common.{ℕ, List}
-use Rattle.hn_look.specs.Look.{IsLookRun}
-use Rattle.hn_look.specs.declared.words.Form.TheVariants.{Log, Table, Why}
-use Rattle.hn_world.specs.declared.parts.Parts.{Parts}
+use Rattle.hn_base.proofs.Names.{ℕ, List}
+use Rattle.hn_look.proofs.Names.{IsLookRun, Log, Table, Why, Parts}
 use Rattle.hn_look.proofs.Forms.{as_log, as_table, as_why}
 use Rattle.hn_look.proofs.program.run.Goals as goal
 

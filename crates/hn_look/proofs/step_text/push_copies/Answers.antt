@@ -1,4 +1,4 @@
-use Rattle.std.proofs.Common.{arith}
+use Rattle.hn_base.proofs.Names.{arith}
 use Rattle.hn_look.proofs.Lists.{copies_more}
 use Rattle.hn_look.proofs.step_text.push_copies.Goals as goal
 

@@ -1,5 +1,5 @@
-use Rattle.std.proofs.Common.{◌≡◌, ◌-◌, ◌++◌, drop, string_bytes}
-use Rattle.hn_look.specs.Steps.{copy_lines}
+use Rattle.hn_base.proofs.Names.{◌≡◌, ◌-◌, ◌++◌, drop, string_bytes}
+use Rattle.hn_look.proofs.Names.{copy_lines}
 use Rattle.hn_look.proofs.step_text.push_copies.Given as goal
 
 -- the copies so far have a line each

@@ -1,9 +1,5 @@
-use Rattle.std.proofs.Common.{◌≡◌, ◌++◌, [], ◌∷◌, Some, codes}
-use Rattle.std.specs.Fmt.{decimal}
-use Rattle.hn_base.specs.HexText.{hex_text}
-use Rattle.std.proofs.lemmas.Result.{on_ok_weaker}
-use Rattle.std.specs.Prelude.{OnOk, string_bytes}
-use Rattle.hn_look.specs.Steps.{sender_endpoint, endpoint_text}
+use Rattle.hn_base.proofs.Names.{◌≡◌, ◌++◌, [], ◌∷◌, Some, codes, decimal, hex_text, on_ok_weaker, OnOk}
+use Rattle.hn_look.proofs.Names.{string_bytes, sender_endpoint, endpoint_text}
 use Rattle.hn_look.proofs.Lists.{line_by, in_pieces, copy_told}
 use Rattle.hn_look.proofs.step_text.push_copy.Goals as goal
 

@@ -1,5 +1,4 @@
-use Rattle.std.proofs.Common.{◌≡◌, ◌++◌, take, string_bytes}
-use Rattle.std.specs.List.{flat_map}
+use Rattle.hn_base.proofs.Names.{◌≡◌, ◌++◌, take, string_bytes, flat_map}
 use Rattle.hn_look.specs.Steps.{noted_line}
 use Rattle.hn_look.proofs.step_text.push_notes.Given as goal
 

@@ -1,5 +1,5 @@
-use Rattle.std.proofs.Common.{arith}
-use Rattle.hn_base.proofs.Results.{on_err}
+use Rattle.hn_base.proofs.Names.{arith}
+use Rattle.hn_node.proofs.Names.{on_err}
 use Rattle.hn_node.proofs.Sent.{none_handed, part_handed}
 use Rattle.hn_node.proofs.sending.hand_all.Goals as goal
 

@@ -1,7 +1,6 @@
-use Rattle.std.proofs.Common.{◌≡◌, take}
-use Rattle.std.specs.List.{flat_map}
+use Rattle.hn_base.proofs.Names.{◌≡◌, take, flat_map}
+use Rattle.hn_node.proofs.Names.{HandsAll}
 use Rattle.hn_node.specs.Turns.{handed_by}
-use Rattle.hn_node.specs.Steps.{HandsAll}
 use Rattle.hn_node.proofs.sending.hand_all.Given as goal
 
 abbrev pub invariant-loop-send : goal.invariant-loop-send

@@ -1,8 +1,6 @@
-use Rattle.std.proofs.Common.{ℕ, ◌+◌, ◌∷◌, [], List, get_or, refl, subst, arith}
+use Rattle.hn_base.proofs.Names.{ℕ, ◌+◌, ◌∷◌, [], List, get_or, refl, subst, arith}
+use Rattle.hn_node.proofs.Names.{on_err, Datagram, HandsPart}
 use Rattle.std.proofs.lemmas.List.Concat.{flat_map_single}
-use Rattle.hn_base.proofs.Results.{on_err}
-use Rattle.hn_wire.specs.declared.datagram.Datagram.{Datagram}
-use Rattle.hn_node.specs.Steps.{HandsPart}
 use Rattle.hn_node.proofs.Sent.{none_handed, none_of_one, part_handed}
 use Rattle.hn_node.proofs.sending.multicast.Goals as goal
 

@@ -1,6 +1,5 @@
-use Rattle.std.proofs.Common.{◌≡◌, ◌+◌, ◌∷◌, [], take}
-use Rattle.std.specs.List.{flat_map}
-use Rattle.hn_node.specs.Steps.{HandsAll}
+use Rattle.hn_base.proofs.Names.{◌≡◌, ◌+◌, ◌∷◌, [], take, flat_map}
+use Rattle.hn_node.proofs.Names.{HandsAll}
 use Rattle.hn_node.proofs.sending.multicast.Given as goal
 
 abbrev pub invariant-loop-peer : goal.invariant-loop-peer

@@ -1,8 +1,5 @@
-use Rattle.std.proofs.Common.{◌≡◌, ◌∙◌, ◌++◌, List, Err, sym, ap, subst}
-use Rattle.std.specs.List.{count_by}
-use Rattle.hn_base.specs.Words.{Took}
-use Rattle.hn_node.specs.declared.logged.Logged.{Logged}
-use Rattle.hn_node.specs.Turns.{is_tick, words_of}
+use Rattle.hn_base.proofs.Names.{◌≡◌, ◌∙◌, ◌++◌, List, Err, sym, ap, subst, count_by, Took}
+use Rattle.hn_node.proofs.Names.{Logged, is_tick, words_of}
 use Rattle.hn_node.proofs.Ticked.{turns_tick}
 use Rattle.hn_node.proofs.serving.serve.Goals as goal
 

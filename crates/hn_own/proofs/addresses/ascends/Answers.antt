@@ -1,7 +1,5 @@
-use Rattle.std.proofs.Common.{rules, tests}
-use Rattle.std.specs.Ordering.{is_lt}
-use Rattle.std.proofs.lemmas.List.Sorted.{answers_always}
-use Rattle.hn_own.specs.Addresses.{OwnAddress, address_cmp}
+use Rattle.hn_base.proofs.Names.{rules, tests, is_lt, answers_always}
+use Rattle.hn_own.proofs.Names.{OwnAddress, address_cmp}
 use Rattle.hn_own.proofs.AddressLists.{ascends_from_answer}
 use Rattle.hn_own.proofs.addresses.ascends.Goals as goal
 

@@ -1,8 +1,5 @@
-use Rattle.std.proofs.Common.{◌≡◌, ◌∙◌, ℕ, ap, subst, sym}
-use Rattle.hn_data.specs.OwnData.{IsAscendingSet}
-use Rattle.hn_hash.specs.Hash.{hash_of}
-use Rattle.hn_own.specs.declared.own.OwnItems.{OwnItems}
-use Rattle.hn_own.specs.Own.{pieces_of}
+use Rattle.hn_base.proofs.Names.{◌≡◌, ◌∙◌, ℕ, ap, subst, sym}
+use Rattle.hn_own.proofs.Names.{IsAscendingSet, hash_of, OwnItems, pieces_of}
 use Rattle.hn_own.proofs.laws.own_data_is_unique.Goals as goal
 
 pub returns : goal.returns

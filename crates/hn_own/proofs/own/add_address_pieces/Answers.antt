@@ -1,4 +1,4 @@
-use Rattle.hn_own.specs.Own.{address_item}
+use Rattle.hn_own.proofs.Names.{address_item}
 use Rattle.hn_own.proofs.OwnPieces.{encodings_more, writable_more}
 use Rattle.hn_own.proofs.own.add_address_pieces.Goals as goal
 

@@ -1,7 +1,5 @@
-use Rattle.std.proofs.Common.{get_or, subst}
-use Rattle.hn_typed.specs.Written.{IsEncoding}
-use Rattle.hn_data.specs.declared.said.AssignedPrefix.{AssignedPrefix}
-use Rattle.hn_own.specs.Own.{assigned_item}
+use Rattle.hn_base.proofs.Names.{get_or, subst}
+use Rattle.hn_own.proofs.Names.{IsEncoding, AssignedPrefix, assigned_item}
 use Rattle.hn_own.proofs.OwnPieces.{encodings_more, writable_more}
 use Rattle.hn_own.proofs.own.add_assigned_pieces.Goals as goal
 

@@ -1,7 +1,5 @@
-use Rattle.std.proofs.Common.{◌≡◌, ◌++◌, map, take}
-use Rattle.std.specs.Prelude.{All}
-use Rattle.hn_typed.specs.Written.{IsWritable}
-use Rattle.hn_own.specs.Own.{assigned_item, encodings}
+use Rattle.hn_base.proofs.Names.{◌≡◌, ◌++◌, map, take, All}
+use Rattle.hn_own.proofs.Names.{IsWritable, assigned_item, encodings}
 use Rattle.hn_own.proofs.own.add_assigned_pieces.Given as goal
 
 abbrev pub invariant-loop-a : goal.invariant-loop-a

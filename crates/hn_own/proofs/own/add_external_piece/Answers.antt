@@ -1,9 +1,5 @@
-use Rattle.std.proofs.Common.{[], ◌≤◌, length, ◌∙◌, sym, subst, arith}
-use Rattle.std.specs.Prelude.{All}
-use Rattle.std.proofs.lemmas.List.Elements.{All-cons, All-nil}
-use Rattle.hn_tlv.specs.Grammar.{HasTlvs}
-use Rattle.hn_typed.specs.Item.{External}
-use Rattle.hn_typed.specs.Written.{value_of, IsWritable}
+use Rattle.hn_base.proofs.Names.{[], ◌≤◌, length, ◌∙◌, sym, subst, arith, All, All-cons, All-nil}
+use Rattle.hn_own.proofs.Names.{HasTlvs, External, value_of, IsWritable}
 use Rattle.hn_own.proofs.OwnPieces.{delegated_tlvs, external_is, external_added}
 use Rattle.hn_own.proofs.OwnSizes.{external_short}
 use Rattle.hn_own.proofs.own.add_external_piece.Goals as goal

@@ -1,5 +1,4 @@
-use Rattle.hn_data.specs.declared.said.PeerLink.{PeerLink}
-use Rattle.hn_own.specs.Own.{peer_item}
+use Rattle.hn_own.proofs.Names.{PeerLink, peer_item}
 use Rattle.hn_own.proofs.OwnPieces.{encodings_more, writable_more}
 use Rattle.hn_own.proofs.own.add_link_pieces.Goals as goal
 

@@ -1,7 +1,5 @@
-use Rattle.std.proofs.Common.{◌≡◌, ◌++◌, map, take}
-use Rattle.std.specs.Prelude.{All}
-use Rattle.hn_typed.specs.Written.{IsWritable}
-use Rattle.hn_own.specs.Own.{peer_item, encodings}
+use Rattle.hn_base.proofs.Names.{◌≡◌, ◌++◌, map, take, All}
+use Rattle.hn_own.proofs.Names.{IsWritable, peer_item, encodings}
 use Rattle.hn_own.proofs.own.add_link_pieces.Given as goal
 
 abbrev pub invariant-loop-link : goal.invariant-loop-link

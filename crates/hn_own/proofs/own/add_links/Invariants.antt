@@ -1,5 +1,5 @@
-use Rattle.std.proofs.Common.{◌≡◌, ◌++◌, map, take}
-use Rattle.hn_own.specs.Own.{link_at}
+use Rattle.hn_base.proofs.Names.{◌≡◌, ◌++◌, map, take}
+use Rattle.hn_own.proofs.Names.{link_at}
 use Rattle.hn_own.proofs.own.add_links.Given as goal
 
 abbrev pub invariant-loop-peer : goal.invariant-loop-peer

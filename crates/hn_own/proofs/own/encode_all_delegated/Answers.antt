@@ -1,7 +1,5 @@
-use Rattle.std.proofs.Common.{get_or, subst}
-use Rattle.hn_typed.specs.Written.{IsEncoding}
-use Rattle.hn_own.specs.declared.own_prefixes.OwnPrefix.{OwnPrefix}
-use Rattle.hn_own.specs.Own.{delegated_item}
+use Rattle.hn_base.proofs.Names.{get_or, subst}
+use Rattle.hn_own.proofs.Names.{IsEncoding, OwnPrefix, delegated_item}
 use Rattle.hn_own.proofs.OwnPieces.{bytes_more, writable_more}
 use Rattle.hn_own.proofs.own.encode_all_delegated.Goals as goal
 

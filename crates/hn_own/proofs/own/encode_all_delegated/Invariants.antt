@@ -1,9 +1,5 @@
-use Rattle.std.proofs.Common.{◌≡◌, map, take}
-use Rattle.std.specs.Prelude.{All}
-use Rattle.std.specs.List.{flat_map}
-use Rattle.hn_tlv.specs.Grammar.{spelling}
-use Rattle.hn_typed.specs.Written.{tlv_of, IsWritable}
-use Rattle.hn_own.specs.Own.{delegated_item}
+use Rattle.hn_base.proofs.Names.{◌≡◌, map, take, All, flat_map}
+use Rattle.hn_own.proofs.Names.{spelling, tlv_of, IsWritable, delegated_item}
 use Rattle.hn_own.proofs.own.encode_all_delegated.Given as goal
 
 abbrev pub invariant-loop-own : goal.invariant-loop-own

@@ -1,6 +1,5 @@
-use Rattle.std.proofs.Common.{◌≡◌, ◌≤◌, ◌*◌, take, length}
-use Rattle.std.specs.List.{flat_map}
-use Rattle.hn_own.specs.Own.{links_at}
+use Rattle.hn_base.proofs.Names.{◌≡◌, ◌≤◌, ◌*◌, take, length, flat_map}
+use Rattle.hn_own.proofs.Names.{links_at}
 use Rattle.hn_own.proofs.own.links_of.Given as goal
 
 abbrev pub invariant-loop-port : goal.invariant-loop-port

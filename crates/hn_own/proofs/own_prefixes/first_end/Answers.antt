@@ -1,5 +1,5 @@
 use Rattle.hn_base.proofs.NextDue.{sooner_each}
-use Rattle.hn_own.specs.Due.{IsOwnPrefixEnd}
+use Rattle.hn_own.proofs.Names.{IsOwnPrefixEnd}
 use Rattle.hn_own.proofs.own_prefixes.first_end.Goals as goal
 
 pub loop-own-preserved : goal.loop-own-preserved

@@ -1,6 +1,5 @@
-use Rattle.std.proofs.Common.{take}
-use Rattle.hn_base.specs.Sooner.{IsSooner, IsOfElement}
-use Rattle.hn_own.specs.Due.{IsOwnPrefixEnd}
+use Rattle.hn_base.proofs.Names.{take, IsSooner, IsOfElement}
+use Rattle.hn_own.proofs.Names.{IsOwnPrefixEnd}
 use Rattle.hn_own.proofs.own_prefixes.first_end.Given as goal
 
 abbrev pub invariant-loop-own : goal.invariant-loop-own

@@ -1,7 +1,5 @@
-use Rattle.std.proofs.Common.{not, rules, tests}
-use Rattle.std.proofs.lemmas.Fn.{filter_same}
-use Rattle.hn_own.specs.declared.own_prefixes.OwnPrefix.{OwnPrefix}
-use Rattle.hn_own.specs.OwnPrefixes.{is_prefix}
+use Rattle.hn_base.proofs.Names.{not, rules, tests, filter_same}
+use Rattle.hn_own.proofs.Names.{OwnPrefix, is_prefix}
 use Rattle.hn_own.proofs.own_prefixes.leave.Goals as goal
 
 pub returns : goal.returns

@@ -1,4 +1,4 @@
-use Rattle.std.proofs.Common.{◌≡◌, ◌++◌, take}
+use Rattle.hn_base.proofs.Names.{◌≡◌, ◌++◌, take}
 use Rattle.hn_own.proofs.ports.add_copies.Given as goal
 
 abbrev pub invariant-loop-port : goal.invariant-loop-port

@@ -1,7 +1,5 @@
-use Rattle.std.proofs.Common.{◌≡◌, ℕ, ◌+◌, ◌%◌, ◌<◌, ap, subst, sym, ◌∙◌, arith}
-use Rattle.std.proofs.lemmas.Nat.{mod_below}
-use Rattle.hn_base.specs.Prefix.{PlainPrefix, IsWithin, last_address}
-use Rattle.hn_prefix.specs.Free.{sub_prefix, sub_prefix_count, next_place, IsTakenPrefix}
+use Rattle.hn_base.proofs.Names.{◌≡◌, ℕ, ◌+◌, ◌%◌, ◌<◌, ap, subst, sym, ◌∙◌, arith, mod_below, PlainPrefix, IsWithin, last_address}
+use Rattle.hn_prefix.proofs.Names.{sub_prefix, sub_prefix_count, next_place, IsTakenPrefix}
 use Rattle.hn_prefix.proofs.JumpsLeft.{few_jumps, jump_counts}
 use Rattle.hn_prefix.proofs.SubPrefixAtPlace.{blocked, sub_prefix_is_within, reaches, later_place}
 use Rattle.hn_prefix.proofs.PlaceAfterStart.{place_now, place_at, not_both, jumped, whole_round}

@@ -1,4 +1,4 @@
-use Rattle.std.proofs.Common.{◌+◌, ◌*◌, ◌≤◌, length}
+use Rattle.hn_base.proofs.Names.{◌+◌, ◌*◌, ◌≤◌, length}
 use Rattle.hn_prefix.proofs.JumpsLeft.{jumps_left}
 use Rattle.hn_prefix.proofs.PlaceAfterStart.{EachTakenBefore}
 use Rattle.hn_prefix.proofs.free.first_free.Given as goal

@@ -1,5 +1,4 @@
-use Rattle.std.proofs.Common.{◌-◌, ◌/◌, ◌^◌, ◌<◌, arith}
-use Rattle.std.proofs.lemmas.Nat.{pow_below, div_below}
+use Rattle.hn_base.proofs.Names.{◌-◌, ◌/◌, ◌^◌, ◌<◌, arith, pow_below, div_below}
 use Rattle.hn_prefix.proofs.free.next_place.Goals as goal
 
 pub overflow_add-place_of : goal.overflow_add-place_of

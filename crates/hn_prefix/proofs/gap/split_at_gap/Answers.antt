@@ -1,4 +1,4 @@
-use Rattle.std.proofs.Common.{arith}
+use Rattle.hn_base.proofs.Names.{arith}
 use Rattle.hn_prefix.proofs.GapLemmas.{HasNoGap-take_more}
 use Rattle.hn_prefix.proofs.gap.split_at_gap.Goals as goal
 use Rattle.hn_prefix.proofs.gap.split_at_gap.Goals.{else-text-i-eq58-via-then-text-i-eq58+else-text-i-eq58-2, else-text-i-eq58-via-else-text-i-eq58}

@@ -1,5 +1,4 @@
-use Rattle.std.proofs.Common.{◌≤◌, ◌^◌, arith}
-use Rattle.std.proofs.Math.Nat.{pow-le-pow_right}
+use Rattle.hn_base.proofs.Names.{◌≤◌, ◌^◌, arith, pow-le-pow_right}
 use Rattle.hn_prefix.proofs.groups.address.Goals as goal
 
 pub overflow_mul-address : goal.overflow_mul-address

@@ -1,5 +1,5 @@
-use Rattle.std.proofs.Common.{◌≡◌, ◌<◌, ◌^◌, take}
-use Rattle.hn_prefix.specs.AddressText.{address_of_groups}
+use Rattle.hn_base.proofs.Names.{◌≡◌, ◌<◌, ◌^◌, take}
+use Rattle.hn_prefix.proofs.Names.{address_of_groups}
 use Rattle.hn_prefix.proofs.groups.address.Given as goal
 
 abbrev pub invariant-loop-group : goal.invariant-loop-group

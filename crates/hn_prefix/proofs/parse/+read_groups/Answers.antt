@@ -1,4 +1,4 @@
-use Rattle.std.proofs.Common.{◌+◌, ◌≤◌, ◌++◌, ◌∷◌, [], Some, length, ap, sym, ◌∙◌, append_assoc, length-append, arith}
+use Rattle.hn_base.proofs.Names.{◌+◌, ◌≤◌, ◌++◌, ◌∷◌, [], Some, length, ap, sym, ◌∙◌, append_assoc, length-append, arith}
 use Rattle.hn_base.proofs.NumeralLemmas.{number_below}
 use Rattle.hn_prefix.proofs.ReadLemmas.{none_alone, one_alone, none_first, one_first}
 use Rattle.hn_prefix.proofs.parse.+read_groups.Goals as goal

@@ -1,5 +1,4 @@
-use Rattle.std.proofs.Common.{◌≡◌, ◌+◌, ◌-◌, ◌++◌, length, replicate, Some, ap, sym, ◌∙◌, arith}
-use Rattle.std.proofs.lemmas.Option.{none-some, same_Some}
+use Rattle.hn_base.proofs.Names.{◌≡◌, ◌+◌, ◌-◌, ◌++◌, length, replicate, Some, ap, sym, ◌∙◌, arith, none-some, same_Some}
 use Rattle.hn_prefix.proofs.ReadLemmas.{without_gap, with_gap}
 use Rattle.hn_prefix.proofs.parse.all_groups.Goals as goal
 

@@ -1,6 +1,5 @@
-use Rattle.std.proofs.Common.{◌≡◌, ◌<◌, ◌^◌, ℕ, List, Ok, ap, sym, subst, ◌∙◌}
-use Rattle.std.proofs.lemmas.Option.{none-some, same_Some}
-use Rattle.hn_prefix.specs.AddressText.{address_of_groups, address_text_of, IsAddressText}
+use Rattle.hn_base.proofs.Names.{◌≡◌, ◌<◌, ◌^◌, ℕ, List, Ok, ap, sym, subst, ◌∙◌, none-some, same_Some}
+use Rattle.hn_prefix.proofs.Names.{address_of_groups, address_text_of, IsAddressText}
 use Rattle.hn_prefix.proofs.WriteLemmas.{address_text_is_read}
 use Rattle.hn_prefix.proofs.parse.parse_address.Goals as goal
 

@@ -1,5 +1,4 @@
-use Rattle.std.proofs.Common.{◌≡◌, length, Some, ap, sym, ◌∙◌}
-use Rattle.std.proofs.lemmas.Bool.{eqb-true}
+use Rattle.hn_base.proofs.Names.{◌≡◌, length, Some, ap, sym, ◌∙◌, eqb-true}
 use Rattle.hn_prefix.proofs.ReadLemmas.{empty_groups}
 use Rattle.hn_prefix.proofs.parse.some_groups.Goals as goal
 

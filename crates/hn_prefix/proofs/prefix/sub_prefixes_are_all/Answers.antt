@@ -1,5 +1,4 @@
-use Rattle.std.proofs.Common.{subst}
-use Rattle.hn_base.specs.Prefix.{IsPrefix}
+use Rattle.hn_base.proofs.Names.{subst, IsPrefix}
 use Rattle.hn_prefix.proofs.SubPrefixAtPlace.{sub_prefixes_are_all_lem}
 use Rattle.hn_prefix.proofs.prefix.sub_prefixes_are_all.Goals as goal
 

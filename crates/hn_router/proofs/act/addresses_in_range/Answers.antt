@@ -1,9 +1,5 @@
-use Rattle.std.proofs.Common.{take, get_or, sym, subst}
-use Rattle.std.specs.Prelude.{All}
-use Rattle.std.proofs.lemmas.List.{take_all, take_more}
-use Rattle.std.proofs.lemmas.List.Elements.{All-push}
-use Rattle.hn_own.specs.Addresses.{OwnAddress}
-use Rattle.hn_own.specs.Ranges.{IsRangedAddress}
+use Rattle.hn_base.proofs.Names.{take, get_or, sym, subst, All, take_all, take_more, All-push}
+use Rattle.hn_router.proofs.Names.{OwnAddress, IsRangedAddress}
 use Rattle.hn_router.proofs.Given.{address_fits}
 use Rattle.hn_router.proofs.act.addresses_in_range.Goals as goal
 

@@ -1,6 +1,5 @@
-use Rattle.std.proofs.Common.{take}
-use Rattle.std.specs.Prelude.{All}
-use Rattle.hn_own.specs.Ranges.{IsRangedAddress}
+use Rattle.hn_base.proofs.Names.{take, All}
+use Rattle.hn_router.proofs.Names.{IsRangedAddress}
 use Rattle.hn_router.proofs.act.addresses_in_range.Given as goal
 
 abbrev pub invariant-loop-own : goal.invariant-loop-own

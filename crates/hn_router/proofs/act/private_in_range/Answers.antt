@@ -1,4 +1,4 @@
-use Rattle.std.proofs.Common.{◌≤◌, ℕ, subst}
+use Rattle.hn_base.proofs.Names.{◌≤◌, ℕ, subst}
 use Rattle.hn_router.proofs.act.private_in_range.Goals as goal
 
 pub returns-in-Some : goal.returns-in-Some

@@ -1,9 +1,7 @@
-use Rattle.std.proofs.Common.{◌∙◌, ap, inl, inr, sym}
-use Rattle.std.proofs.lemmas.Result.{on_ok_weaker}
-use Rattle.hn_rules.specs.Rules.{words_of}
-use Rattle.hn_rules.specs.declared.running.Running.{Running}
+use Rattle.hn_base.proofs.Names.{◌∙◌, ap, inl, inr, sym, on_ok_weaker}
+use Rattle.hn_router.proofs.Names.{words_of, Running, plain_event, IsEvent}
 use Rattle.hn_base.proofs.RulesInTurn.{ran_plain}
-use Rattle.hn_router.specs.Act.{plain_event, IsEvent, HasRun}
+use Rattle.hn_router.specs.Act.{HasRun}
 use Rattle.hn_router.proofs.act.run.Goals as goal
 
 pub returns-then-refuses : goal.returns-then-refuses

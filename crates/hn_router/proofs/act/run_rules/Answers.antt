@@ -1,8 +1,6 @@
-use Rattle.std.proofs.lemmas.Result.{on_ok_weaker}
-use Rattle.hn_rules.specs.Rules.{words_of}
-use Rattle.hn_rules.specs.Refresh.{IsRefresh}
+use Rattle.hn_base.proofs.Names.{on_ok_weaker}
+use Rattle.hn_router.proofs.Names.{words_of, IsRefresh, plain_event, IsEdit}
 use Rattle.hn_base.proofs.RulesInTurn.{ran_both}
-use Rattle.hn_router.specs.Act.{plain_event, IsEdit}
 use Rattle.hn_router.proofs.Planning.{edit_runs}
 use Rattle.hn_router.proofs.act.run_rules.Goals as goal
 

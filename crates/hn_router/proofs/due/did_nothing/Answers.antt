@@ -1,7 +1,5 @@
-use Rattle.std.proofs.Common.{◌≡◌, ℕ, sym, subst}
-use Rattle.hn_rules.specs.Rules.{begun_at}
-use Rattle.hn_rules.specs.Ticks.{IsTick}
-use Rattle.hn_router.specs.Act.{plain_event, PlainEvent, Tick, IsEvent}
+use Rattle.hn_base.proofs.Names.{◌≡◌, ℕ, sym, subst}
+use Rattle.hn_router.proofs.Names.{begun_at, IsTick, plain_event, PlainEvent, Tick, IsEvent}
 use Rattle.hn_router.proofs.Keeping.{tick_ran}
 use Rattle.hn_router.proofs.due.did_nothing.Goals as goal
 

@@ -1,9 +1,5 @@
-use Rattle.std.proofs.Common.{◌≡◌, ◌∙◌, ap, sym, subst}
-use Rattle.hn_base.specs.Words.{Begins}
-use Rattle.hn_rules.specs.declared.done.Done.{Done}
-use Rattle.hn_rules.specs.declared.running.Running.{Running}
-use Rattle.hn_rules.specs.declared.state.State.{State}
-use Rattle.hn_rules.specs.Rules.{begun_at}
+use Rattle.hn_base.proofs.Names.{◌≡◌, ◌∙◌, ap, sym, subst, Begins}
+use Rattle.hn_router.proofs.Names.{Done, Running, State, begun_at}
 use Rattle.hn_router.specs.Act.{Happened}
 use Rattle.hn_router.proofs.Keeping.{one_due}
 use Rattle.hn_router.proofs.OneEvents.{OneEventLaws, sole_event}

@@ -1,4 +1,4 @@
-use Rattle.std.proofs.Common.{Option, map, sym, subst, arith}
+use Rattle.hn_base.proofs.Names.{Option, map, sym, subst, arith}
 use Rattle.std.specs.Prelude.{IfSome}
 use Rattle.hn_router.specs.Act.{Addresses}
 use Rattle.hn_kept.specs.Kept.{Kept}

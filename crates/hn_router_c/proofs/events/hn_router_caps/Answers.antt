@@ -1,4 +1,4 @@
-use Rattle.std.proofs.Common.{refl}
+use Rattle.hn_base.proofs.Names.{refl}
 use Rattle.hn_router_c.proofs.events.hn_router_caps.Goals as goal
 
 pub returns-clause-acted : goal.returns-clause-acted

@@ -1,4 +1,4 @@
-use Rattle.std.proofs.Common.{arith}
+use Rattle.hn_base.proofs.Names.{arith}
 use Rattle.hn_router_c.proofs.Refusals.{not_acted}
 use Rattle.hn_router_c.proofs.events.hn_router_withdraw.Goals as goal
 

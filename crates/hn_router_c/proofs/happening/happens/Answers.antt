@@ -1,4 +1,4 @@
-use Rattle.std.proofs.Common.{◌∙◌, subst}
+use Rattle.hn_base.proofs.Names.{◌∙◌, subst}
 use Rattle.hn_kept.specs.Kept.{Kept, Acts}
 use Rattle.hn_router.specs.Act.{plain_event}
 use Rattle.hn_router_c.specs.Calls.{Acted}

@@ -1,4 +1,4 @@
-use Rattle.std.proofs.Common.{sym, subst}
+use Rattle.hn_base.proofs.Names.{sym, subst}
 use Rattle.hn_kept.specs.Kept.{Kept, IsNewKept}
 use Rattle.hn_router_c.proofs.life.hn_router_new.Goals as goal
 

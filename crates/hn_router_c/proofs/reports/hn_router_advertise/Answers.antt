@@ -1,4 +1,4 @@
-use Rattle.std.proofs.Common.{◌∙◌, subst}
+use Rattle.hn_base.proofs.Names.{◌∙◌, subst}
 use Rattle.hn_kept.specs.Kept.{Kept}
 use Rattle.hn_router_c.specs.Calls.{Advertises, HasNoRoomFor, Advertised}
 use Rattle.hn_router_c.proofs.Refusals.{of_some}

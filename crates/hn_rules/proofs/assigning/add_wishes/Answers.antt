@@ -1,9 +1,5 @@
-use Rattle.std.proofs.Common.{◌≡◌, ◌<◌, List, length, get_or, subst, take, arith}
-use Rattle.std.proofs.lemmas.List.{take_all, length-map}
-use Rattle.hn_base.specs.declared.ids.EpId.{EpId}
-use Rattle.hn_data.specs.View.{plain_view}
-use Rattle.hn_rules.specs.declared.assigning.Post.{Post}
-use Rattle.hn_rules.specs.Posts.{endpoints_at}
+use Rattle.hn_base.proofs.Names.{◌≡◌, ◌<◌, List, length, get_or, subst, take, arith, take_all, length-map}
+use Rattle.hn_rules.proofs.Names.{EpId, plain_view, Post, endpoints_at}
 use Rattle.hn_rules.proofs.WishLists.{HasAt, endpoint_of, added_wish, at_next, are_at}
 use Rattle.hn_rules.proofs.assigning.add_wishes.Goals as goal
 

@@ -1,6 +1,5 @@
-use Rattle.std.proofs.Common.{take}
-use Rattle.hn_data.specs.View.{plain_view}
-use Rattle.hn_rules.specs.Posts.{endpoints_at}
+use Rattle.hn_base.proofs.Names.{take}
+use Rattle.hn_rules.proofs.Names.{plain_view, endpoints_at}
 use Rattle.hn_rules.proofs.WishLists.{HasAt}
 use Rattle.hn_rules.proofs.assigning.add_wishes.Given as goal
 

@@ -1,9 +1,5 @@
-use Rattle.std.proofs.Common.{◌∙◌, List, ap, subst, sym}
-use Rattle.std.specs.Prelude.{All}
-use Rattle.hn_base.specs.declared.ids.EpId.{EpId}
-use Rattle.hn_assign.specs.declared.assigned.Wish.{Wish}
-use Rattle.hn_data.specs.View.{plain_view}
-use Rattle.hn_rules.specs.Posts.{HasCommonLink, endpoints_at}
+use Rattle.hn_base.proofs.Names.{◌∙◌, List, ap, subst, sym, All}
+use Rattle.hn_rules.proofs.Names.{EpId, Wish, plain_view, HasCommonLink, endpoints_at}
 use Rattle.hn_rules.proofs.WishLists.{HasAt, HasBelow, below_none, below_next, below_all, below_are}
 use Rattle.hn_rules.proofs.assigning.all_wishes.Goals as goal
 

@@ -1,4 +1,4 @@
-use Rattle.hn_data.specs.View.{plain_view}
+use Rattle.hn_rules.proofs.Names.{plain_view}
 use Rattle.hn_rules.proofs.WishLists.{HasBelow}
 use Rattle.hn_rules.proofs.assigning.all_wishes.Given as goal
 

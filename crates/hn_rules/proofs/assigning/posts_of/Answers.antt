@@ -1,5 +1,5 @@
-use Rattle.std.proofs.Common.{refl}
-use Rattle.hn_data.specs.View.{plain_view}
+use Rattle.hn_base.proofs.Names.{refl}
+use Rattle.hn_rules.proofs.Names.{plain_view}
 use Rattle.hn_rules.proofs.WishLists.{posts_more}
 use Rattle.hn_rules.proofs.assigning.posts_of.Goals as goal
 

@@ -1,7 +1,5 @@
-use Rattle.std.proofs.Common.{◌≡◌, take}
-use Rattle.std.specs.Prelude.{All}
-use Rattle.hn_data.specs.View.{plain_view}
-use Rattle.hn_rules.specs.Posts.{HasCommonLink, endpoints_at}
+use Rattle.hn_base.proofs.Names.{◌≡◌, take, All}
+use Rattle.hn_rules.proofs.Names.{plain_view, HasCommonLink, endpoints_at}
 use Rattle.hn_rules.proofs.assigning.posts_of.Given as goal
 
 abbrev pub invariant-loop-endpoint : goal.invariant-loop-endpoint

@@ -1,4 +1,4 @@
-use Rattle.std.proofs.lemmas.Slice.Eq.{slice_eq-Decides}
+use Rattle.hn_base.proofs.Names.{slice_eq-Decides}
 use Rattle.hn_base.proofs.Keys.{node_decided}
 use Rattle.hn_rules.proofs.idle.same_nodes.Goals as goal
 

@@ -1,7 +1,4 @@
-use Rattle.hn_base.proofs.SomeResult.{total_by}
-use Rattle.hn_rules.specs.Events.{IsAttaching}
-use Rattle.hn_rules.specs.Rules.{words_of}
-use Rattle.hn_rules.specs.Tick.{IsExpiry, IsPortsTick}
+use Rattle.hn_rules.proofs.Names.{total_by, IsAttaching, words_of, IsExpiry, IsPortsTick}
 use Rattle.hn_rules.proofs.SomeRefreshes.{RefreshLaws, Well, Any, total_refresh}
 use Rattle.hn_rules.proofs.SomeArrivals.{ArrivalLaws, total_arrival}
 use Rattle.hn_rules.proofs.SomeWishes.{AskingLaws, AssigningLaws, total_assigning}

@@ -1,11 +1,5 @@
-use Rattle.std.proofs.Common.{◌≡◌, [], refl}
-use Rattle.hn_rules.specs.Arrival.{IsArrival}
-use Rattle.hn_rules.specs.Assigning.{IsAssigning}
-use Rattle.hn_rules.specs.Changes.{IsOfChanges}
-use Rattle.hn_rules.specs.Delegating.{withdrawing, ending}
-use Rattle.hn_rules.specs.Events.{setting_caps, setting_private, IsRestarting}
-use Rattle.hn_rules.specs.Refresh.{IsRefresh}
-use Rattle.hn_rules.specs.Tick.{IsExpiry, forgetting, IsPortsTick}
+use Rattle.hn_base.proofs.Names.{◌≡◌, [], refl}
+use Rattle.hn_rules.proofs.Names.{IsArrival, IsAssigning, IsOfChanges, withdrawing, ending, setting_caps, setting_private, IsRestarting, IsRefresh, IsExpiry, forgetting, IsPortsTick}
 use Rattle.hn_rules.proofs.Leads.{each_leads, of_walk}
 use Rattle.hn_rules.proofs.Walk.{refresh_walk, arrival_walk, expiry_walk, ending_walk, forgetting_walk, assigning_walk, ports_walk, delegating_walk, withdrawing_walk, caps_walk, private_walk}
 use Rattle.hn_rules.proofs.Walk.{addressing_walk, restarting_walk}

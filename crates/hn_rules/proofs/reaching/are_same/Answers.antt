@@ -1,4 +1,4 @@
-use Rattle.std.proofs.lemmas.Slice.Eq.{slice_eq-Decides}
+use Rattle.hn_base.proofs.Names.{slice_eq-Decides}
 use Rattle.hn_rules.proofs.ReachStays.{link_decided}
 use Rattle.hn_rules.proofs.reaching.are_same.Goals as goal
 

@@ -1,6 +1,5 @@
-use Rattle.std.proofs.Common.{List, subst, sym}
-use Rattle.std.specs.Prelude.{Contains}
-use Rattle.hn_data.specs.declared.said.PeerLink.{PeerLink}
+use Rattle.hn_base.proofs.Names.{List, subst, sym}
+use Rattle.hn_rules.proofs.Names.{Contains, PeerLink}
 use Rattle.hn_rules.proofs.reaching.say_same_peers.Goals as goal
 
 pub returns : goal.returns

@@ -1,4 +1,4 @@
-use Rattle.std.proofs.Common.{ℕ, List, Option, Err, IfSome, inl, inr, sym, ap, subst, arith}
+use Rattle.hn_base.proofs.Names.{ℕ, List, Option, Err, IfSome, inl, inr, sym, ap, subst, arith}
 use Rattle.hn_script.specs.Field.{IsHexWord}
 use Rattle.hn_run.proofs.capture.feed_line.Goals as goal
 

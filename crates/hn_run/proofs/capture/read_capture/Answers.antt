@@ -1,5 +1,4 @@
-use Rattle.std.proofs.Common.{arith}
-use Rattle.std.proofs.lemmas.Result.{err_from_is_err_and}
+use Rattle.hn_base.proofs.Names.{arith, err_from_is_err_and}
 use Rattle.hn_run.proofs.Captures.{none_read, few_fed, read_more, first_fault}
 use Rattle.hn_run.proofs.capture.read_capture.Goals as goal
 

@@ -1,4 +1,4 @@
-use Rattle.std.proofs.Common.{length}
+use Rattle.hn_base.proofs.Names.{length}
 use Rattle.hn_run.proofs.Captures.{IsReadTo}
 use Rattle.hn_run.proofs.capture.read_capture.Given as goal
 

@@ -1,5 +1,5 @@
-use Rattle.std.proofs.Common.{ℕ, inr, subst}
-use Rattle.hn_run.specs.Decode.{IsDecodeOf}
+use Rattle.hn_base.proofs.Names.{ℕ, inr, subst}
+use Rattle.hn_run.proofs.Names.{IsDecodeOf}
 use Rattle.hn_run.proofs.Spelled.{not_refused}
 use Rattle.hn_run.proofs.decode.run_decode.Goals as goal
 

@@ -1,5 +1,5 @@
-use Rattle.std.proofs.Common.{inl, inr, refl, lit<}
-use Rattle.hn_run.specs.Decode.{malformed_line}
+use Rattle.hn_base.proofs.Names.{inl, inr, refl, lit<}
+use Rattle.hn_run.proofs.Names.{malformed_line}
 use Rattle.hn_run.proofs.Cut.{broken_of_written, starved_of_written, written_statuses}
 use Rattle.hn_run.proofs.decode.write_contents.Goals as goal
 

@@ -1,5 +1,5 @@
-use Rattle.std.proofs.Common.{inl, inr, refl, arith, lit<}
-use Rattle.hn_lab.specs.Reports.{refused_line}
+use Rattle.hn_base.proofs.Names.{inl, inr, refl, arith, lit<}
+use Rattle.hn_run.proofs.Names.{refused_line}
 use Rattle.hn_run.proofs.Streams.{cut_on_err}
 use Rattle.hn_run.proofs.Cut.{broken_of_written, starved_of_written}
 use Rattle.hn_run.proofs.decode.write_decoded.Goals as goal

@@ -1,5 +1,5 @@
-use Rattle.std.proofs.Common.{◌∙◌}
-use Rattle.hn_run.specs.Decode.{malformed_line}
+use Rattle.hn_base.proofs.Names.{◌∙◌}
+use Rattle.hn_run.proofs.Names.{malformed_line}
 use Rattle.hn_run.proofs.Streams.{cut_on_err}
 use Rattle.hn_run.proofs.decode.write_malformed.Goals as goal
 

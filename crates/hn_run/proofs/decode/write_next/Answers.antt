@@ -1,4 +1,5 @@
-use Rattle.std.proofs.Common.{◌≡◌, ◌∙◌, [], ◌++◌, ap, append-nil}
+use Rattle.hn_base.proofs.Names.{◌≡◌, ◌∙◌, [], ◌++◌, ap}
+use Rattle.hn_run.proofs.Names.{append-nil}
 use Rattle.hn_run.proofs.Streams.{AppendsFront-none}
 use Rattle.hn_run.proofs.decode.write_next.Goals as goal
 

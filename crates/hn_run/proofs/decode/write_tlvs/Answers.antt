@@ -1,8 +1,5 @@
-use Rattle.std.proofs.Common.{◌∙◌, ◌++◌, ℕ, List, append_assoc, subst}
-use Rattle.std.specs.Io.KnownBytes.{Appends}
-use Rattle.std.proofs.lemmas.Result.{err_from_is_err_and}
-use Rattle.hn_io.specs.declared.fault.IoFault.TheVariants.{NoMemory}
-use Rattle.hn_decode.specs.Nested.{tlvs_line}
+use Rattle.hn_base.proofs.Names.{◌∙◌, ◌++◌, ℕ, List, append_assoc, subst, Appends, err_from_is_err_and}
+use Rattle.hn_run.proofs.Names.{NoMemory, tlvs_line}
 use Rattle.hn_run.proofs.Streams.{AppendsFront-none, part_is_cut}
 use Rattle.hn_run.proofs.Cut.{cut_in_first_line, cut_among_lines}
 use Rattle.hn_run.proofs.decode.write_tlvs.Goals as goal

@@ -1,6 +1,5 @@
-use Rattle.std.proofs.Common.{◌≡◌, ◌-◌, ◌++◌, List, ℕ, length}
-use Rattle.std.specs.Io.KnownBytes.{Appends}
-use Rattle.hn_decode.specs.Nested.{tlvs_line, IsTextTo}
+use Rattle.hn_base.proofs.Names.{◌≡◌, ◌-◌, ◌++◌, List, ℕ, length, Appends}
+use Rattle.hn_run.proofs.Names.{tlvs_line, IsTextTo}
 use Rattle.hn_run.proofs.decode.write_tlvs.Given as goal
 
 -- the first line and the lines of the TLVs so far were written

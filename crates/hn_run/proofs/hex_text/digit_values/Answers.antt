@@ -1,5 +1,4 @@
-use Rattle.std.proofs.Common.{◌∙◌, arith}
-use Rattle.std.proofs.lemmas.List.{length-set}
+use Rattle.hn_base.proofs.Names.{◌∙◌, arith, length-set}
 use Rattle.hn_run.proofs.HexDigits.{AreKnown-more}
 use Rattle.hn_run.proofs.hex_text.digit_values.Goals as goal
 

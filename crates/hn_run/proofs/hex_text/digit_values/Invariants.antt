@@ -1,4 +1,4 @@
-use Rattle.std.proofs.Common.{◌≡◌, length}
+use Rattle.hn_base.proofs.Names.{◌≡◌, length}
 use Rattle.hn_run.proofs.HexDigits.{AreKnown}
 use Rattle.hn_run.proofs.hex_text.digit_values.Given as goal
 

@@ -1,4 +1,4 @@
-use Rattle.std.proofs.Common.{◌<◌, length, sym, arith}
+use Rattle.hn_base.proofs.Names.{◌<◌, length, sym, arith}
 use Rattle.hn_run.proofs.HexDigits.{value_known, octet_fits, goes_on_high, goes_on_low, stops_bad, stops_odd, stops_even}
 use Rattle.hn_run.proofs.hex_text.octets_of.Goals as goal
 use Rattle.hn_run.proofs.hex_text.octets_of.Goals.{in-None, in-Some-high}

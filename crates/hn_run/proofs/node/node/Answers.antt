@@ -1,4 +1,4 @@
-use Rattle.std.proofs.Common.{[], ◌∷◌}
+use Rattle.hn_base.proofs.Names.{[], ◌∷◌}
 use Rattle.hn_run.proofs.NodeSources.{node_read, node_unread}
 use Rattle.hn_run.proofs.Sources.{Contains-more}
 use Rattle.hn_run.proofs.node.node.Goals as goal

@@ -1,7 +1,5 @@
-use Rattle.std.proofs.Common.{◌≡◌, append_assoc, length}
-use Rattle.std.specs.Prelude.{string_bytes}
-use Rattle.std.proofs.lemmas.Result.{IfOk-weaker}
-use Rattle.hn_run.specs.Node.{node_line}
+use Rattle.hn_base.proofs.Names.{◌≡◌, append_assoc, length, IfOk-weaker}
+use Rattle.hn_run.proofs.Names.{string_bytes, node_line}
 use Rattle.hn_run.proofs.Nodes.{line_is}
 use Rattle.hn_run.proofs.node.node_line.Goals as goal
 

@@ -1,6 +1,5 @@
-use Rattle.std.proofs.Common.{◌∙◌, ℕ, List, Err, sym, ap, subst}
-use Rattle.hn_script.specs.declared.node_file.NodeLine.{NodeLine}
-use Rattle.hn_run.specs.Node.{IsOverfull}
+use Rattle.hn_base.proofs.Names.{◌∙◌, ℕ, List, Err, sym, ap, subst}
+use Rattle.hn_run.proofs.Names.{NodeLine, IsOverfull}
 use Rattle.hn_run.proofs.Nodes.{not_done, unserved}
 use Rattle.hn_run.proofs.node.node_of.Goals as goal
 

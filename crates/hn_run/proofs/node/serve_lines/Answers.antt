@@ -1,10 +1,7 @@
-use Rattle.std.proofs.Common.{◌∙◌, ℕ, [], ◌∷◌, ◌++◌, Some, Err, inl, inr, refl, sym, ap, subst, lit<}
-use Rattle.hn_base.specs.Words.{Begins}
-use Rattle.hn_base.specs.declared.version.Version.TheVariants.{One}
+use Rattle.hn_base.proofs.Names.{◌∙◌, ℕ, [], ◌∷◌, ◌++◌, Some, Err, inl, inr, refl, sym, ap, subst, lit<, Begins}
+use Rattle.hn_run.proofs.Names.{One, refused_line, plain_call}
 use Rattle.hn_io.specs.Pcg.{pcg_word}
 use Rattle.hn_node.specs.Turns.{serving, words_of}
-use Rattle.hn_lab.specs.Reports.{refused_line}
-use Rattle.hn_run.specs.Node.{plain_call}
 use Rattle.hn_run.proofs.Nodes.{status_of, not_done, starved, unserved, told_served, within_told, begins_seed, ended}
 use Rattle.hn_run.proofs.NinthPrefix.{overfull_sets_none_up}
 use Rattle.hn_run.proofs.Setups.{limit_of_set_up}

@@ -1,5 +1,5 @@
-use Rattle.std.proofs.Common.{rules, ◌≡◌, ◌∙◌, sym}
-use Rattle.hn_run.specs.Node.{line_of}
+use Rattle.hn_base.proofs.Names.{rules, ◌≡◌, ◌∙◌, sym}
+use Rattle.hn_run.proofs.Names.{line_of}
 use Rattle.hn_run.proofs.Nodes.{told_of}
 use Rattle.hn_run.proofs.node.tell.Goals as goal
 

@@ -1,5 +1,5 @@
-use Rattle.std.proofs.Common.{◌≡◌, ◌∙◌, ◌++◌, [], ap, sym, append_assoc, append-nil, ◌+◌}
-use Rattle.std.proofs.lemmas.List.{take-append-drop}
+use Rattle.hn_base.proofs.Names.{◌≡◌, ◌∙◌, ◌++◌, [], ap, sym, append_assoc, ◌+◌, take-append-drop}
+use Rattle.hn_run.proofs.Names.{append-nil}
 use Rattle.std.proofs.lemmas.Result.{on_err_weaker}
 use Rattle.hn_base.proofs.Results.{on_err}
 use Rattle.hn_run.proofs.Streams.{AppendsPart-more}

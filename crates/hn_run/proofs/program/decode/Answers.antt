@@ -1,6 +1,5 @@
-use Rattle.std.proofs.Common.{[], ◌∷◌, refl, lit<}
-use Rattle.hn_io.specs.declared.fault.IoFault.TheVariants.{Failed, NoMemory}
-use Rattle.hn_run.specs.Decode.{WritesDecode, CutsDecode}
+use Rattle.hn_base.proofs.Names.{[], ◌∷◌, refl, lit<}
+use Rattle.hn_run.proofs.Names.{Failed, NoMemory, WritesDecode, CutsDecode}
 use Rattle.hn_run.proofs.Outcomes.{by_status, decode_read, decode_unread}
 use Rattle.hn_run.proofs.Sources.{Contains-more}
 use Rattle.hn_run.proofs.program.decode.Goals as goal

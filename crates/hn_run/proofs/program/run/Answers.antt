@@ -1,7 +1,6 @@
-use Rattle.std.proofs.Common.{◌≡◌, map, refl, arith}
+use Rattle.hn_base.proofs.Names.{◌≡◌, map, refl, arith}
+use Rattle.hn_run.proofs.Names.{Lab, Udp, Node, Decode, Watch, Soak, IsNodeRun, PlainCall}
 use Rattle.std.specs.String.{string_bytes}
-use Rattle.hn_run.specs.declared.words.Form.TheVariants.{Lab, Udp, Node, Decode, Watch, Soak}
-use Rattle.hn_run.specs.Node.{IsNodeRun, PlainCall}
 use Rattle.hn_run.proofs.LeftOnWire.{leaves_of_base}
 use Rattle.hn_run.proofs.Nodes.{as_called, call_in_range}
 use Rattle.hn_run.proofs.Forms.{ends_alike, without_wire}

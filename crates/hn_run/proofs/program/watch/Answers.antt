@@ -1,7 +1,5 @@
-use Rattle.std.proofs.Common.{◌≢◌, ℕ, List, [], ◌∷◌, refl, subst, lit<}
-use Rattle.hn_io.specs.declared.fault.IoFault.TheVariants.{Failed}
-use Rattle.hn_run.specs.Outcome.{WatchHolds}
-use Rattle.hn_run.specs.Watch.{IsCapture, WritesWatch, CutsWatch, StarvesWatch}
+use Rattle.hn_base.proofs.Names.{◌≢◌, ℕ, List, [], ◌∷◌, refl, subst, lit<}
+use Rattle.hn_run.proofs.Names.{Failed, WatchHolds, IsCapture, WritesWatch, CutsWatch, StarvesWatch}
 use Rattle.hn_run.proofs.Outcomes.{by_status, watch_read, watch_unread}
 use Rattle.hn_run.proofs.Sources.{Contains-more}
 use Rattle.hn_run.proofs.program.watch.Goals as goal

@@ -1,4 +1,4 @@
-use Rattle.std.proofs.Common.{append_assoc}
+use Rattle.hn_base.proofs.Names.{append_assoc}
 use Rattle.hn_run.proofs.seen_text.watch_line.Goals as goal
 
 pub returns : goal.returns

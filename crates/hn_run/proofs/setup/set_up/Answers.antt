@@ -1,7 +1,5 @@
-use Rattle.std.proofs.Common.{◌≡◌, ◌∙◌, ℕ, List, ◌∷◌, [], ◌++◌, take, sym, ap, subst}
-use Rattle.std.proofs.lemmas.List.{take_more}
-use Rattle.hn_script.specs.declared.node_file.NodeLine.{NodeLine}
-use Rattle.hn_run.specs.Node.{IsSetUp}
+use Rattle.hn_base.proofs.Names.{◌≡◌, ◌∙◌, ℕ, List, ◌∷◌, [], ◌++◌, take, sym, ap, subst, take_more}
+use Rattle.hn_run.proofs.Names.{NodeLine, IsSetUp}
 use Rattle.hn_run.proofs.Setups.{attached_alone, set_up_more, overfull_at}
 use Rattle.hn_run.proofs.setup.set_up.Goals as goal
 

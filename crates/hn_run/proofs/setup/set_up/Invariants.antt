@@ -1,7 +1,5 @@
-use Rattle.std.proofs.Common.{◌≡◌, ℕ, List, [], ◌∷◌, take}
-use Rattle.hn_base.specs.Words.{Took}
-use Rattle.hn_own.specs.Ports.{endpoints_of}
-use Rattle.hn_run.specs.Node.{IsSetUp}
+use Rattle.hn_base.proofs.Names.{◌≡◌, ℕ, List, [], ◌∷◌, take, Took}
+use Rattle.hn_run.proofs.Names.{endpoints_of, IsSetUp}
 use Rattle.hn_run.proofs.setup.set_up.Given as goal
 
 -- the lines so far happened

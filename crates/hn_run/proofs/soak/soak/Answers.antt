@@ -1,10 +1,8 @@
-use Rattle.std.proofs.Common.{◌≡◌, ◌⊎◌, ℕ, zero, suc, List, [], ◌∷◌, Option, None, inl, inr, refl, sym, subst, lit<, arith}
-use Rattle.std.specs.Io.KnownBytes.{Appends}
-use Rattle.std.specs.Prelude.{Contains}
-use Rattle.hn_lab.specs.Lab.{HasDonePlay, HasRefusal, IsLabRun, IsScriptPlay, IsUnread, StatusOfScript}
+use Rattle.hn_base.proofs.Names.{◌≡◌, ◌⊎◌, ℕ, zero, suc, List, [], ◌∷◌, Option, None, inl, inr, refl, sym, subst, lit<, arith, Appends}
+use Rattle.hn_run.proofs.Names.{Contains, IsLabRun, Parts}
+use Rattle.hn_lab.specs.Lab.{HasDonePlay, HasRefusal, IsScriptPlay, IsUnread, StatusOfScript}
 use Rattle.hn_lab.specs.Stage.{Mail}
 use Rattle.hn_script.specs.Soak.{soak_text}
-use Rattle.hn_world.specs.declared.parts.Parts.{Parts}
 use Rattle.hn_run.proofs.Streams.{Appends-none}
 use Rattle.hn_run.proofs.soak.soak.Goals as goal
 

@@ -1,4 +1,4 @@
-use Rattle.std.proofs.Common.{inl, inr, arith}
+use Rattle.hn_base.proofs.Names.{inl, inr, arith}
 use Rattle.hn_run.proofs.Captures.{capture_passes}
 use Rattle.hn_run.proofs.watch.run_watch.Goals as goal
 

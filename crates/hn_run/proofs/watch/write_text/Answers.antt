@@ -1,7 +1,5 @@
-use Rattle.std.proofs.Common.{◌∙◌, ℕ, List, subst, sym, append-nil}
-use Rattle.std.specs.Io.KnownBytes.{Appends}
-use Rattle.std.proofs.lemmas.Result.{err_from_is_err_and}
-use Rattle.hn_run.specs.Watch.{watch_line}
+use Rattle.hn_base.proofs.Names.{◌∙◌, ℕ, List, subst, sym, Appends, err_from_is_err_and}
+use Rattle.hn_run.proofs.Names.{append-nil, watch_line}
 use Rattle.hn_run.proofs.Streams.{part_is_cut}
 use Rattle.hn_run.proofs.WatchTexts.{text_all, grows, cut_first, cut_later}
 use Rattle.hn_run.proofs.watch.write_text.Goals as goal

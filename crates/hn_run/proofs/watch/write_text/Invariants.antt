@@ -1,5 +1,4 @@
-use Rattle.std.proofs.Common.{◌≡◌}
-use Rattle.std.specs.Io.KnownBytes.{Appends}
+use Rattle.hn_base.proofs.Names.{◌≡◌, Appends}
 use Rattle.hn_run.proofs.WatchTexts.{text_to}
 use Rattle.hn_run.proofs.watch.write_text.Given as goal
 

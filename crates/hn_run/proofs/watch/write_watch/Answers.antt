@@ -1,7 +1,5 @@
-use Rattle.std.proofs.Common.{◌∙◌, List, inr, ap, lit<}
-use Rattle.hn_watch.specs.declared.seen.Seen.{Seen}
-use Rattle.hn_watch.specs.Watch.{fed_of}
-use Rattle.hn_run.specs.Watch.{watch_text}
+use Rattle.hn_base.proofs.Names.{◌∙◌, List, inr, ap, lit<}
+use Rattle.hn_run.proofs.Names.{Seen, fed_of, watch_text}
 use Rattle.hn_run.proofs.Cut.{starved_of_written}
 use Rattle.hn_run.proofs.watch.write_watch.Goals as goal
 

@@ -1,5 +1,5 @@
-use Rattle.std.proofs.Common.{◌∙◌, Err, inl, inr, refl, sym, ap, ⊎_elim, lit<}
-use Rattle.hn_lab.specs.Reports.{refused_line}
+use Rattle.hn_base.proofs.Names.{◌∙◌, Err, inl, inr, refl, sym, ap, ⊎_elim, lit<}
+use Rattle.hn_run.proofs.Names.{refused_line}
 use Rattle.hn_run.proofs.Streams.{cut_on_err}
 use Rattle.hn_run.proofs.Captures.{watched, faulty}
 use Rattle.hn_run.proofs.Cut.{broken_of_written, starved_of_written, written_whole, done_of}

@@ -1,7 +1,5 @@
-use Rattle.std.proofs.Common.{◌≡◌, ◌≢◌, ◌∙◌, sym, arith, map, length}
-use Rattle.std.proofs.lemmas.Bool.{eqb-true, eqb-false}
-use Rattle.std.proofs.lemmas.List.{length-map}
-use Rattle.std.specs.Prelude.{string_bytes}
+use Rattle.hn_base.proofs.Names.{◌≡◌, ◌≢◌, ◌∙◌, sym, arith, map, length, eqb-true, eqb-false, length-map}
+use Rattle.hn_run.proofs.Names.{string_bytes}
 use Rattle.hn_run.proofs.Forms.{word_at}
 use Rattle.hn_run.proofs.Nodes.{as_many}
 use Rattle.hn_run.proofs.Ported.{one_more, no_peers, all_ported}

@@ -1,4 +1,4 @@
-use Rattle.std.proofs.Common.{map, string_bytes}
+use Rattle.hn_base.proofs.Names.{map, string_bytes}
 use Rattle.hn_run.proofs.Ported.{ArePorted}
 use Rattle.hn_run.proofs.words.ports_of.Given as goal
 

@@ -1,7 +1,5 @@
 -- What decodes, and `-`, are the words that write bytes.
-use Rattle.std.proofs.Common.{◌≡◌, true, refl, [], sym, ◌∙◌}
-use Rattle.std.proofs.lemmas.Bool.Decides.{Decides-eqb}
-use Rattle.std.proofs.lemmas.Slice.Eq.{slice_eq-Decides}
+use Rattle.hn_base.proofs.Names.{◌≡◌, true, refl, [], sym, ◌∙◌, Decides-eqb, slice_eq-Decides}
 use Rattle.hn_script.proofs.HexWords.{some_hex_word, no_hex_word}
 use Rattle.hn_script.proofs.fields.digits.Goals as goal
 

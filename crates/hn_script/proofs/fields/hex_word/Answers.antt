@@ -1,5 +1,4 @@
-use Rattle.std.proofs.Common.{◌∙◌, length, sym}
-use Rattle.std.proofs.lemmas.Bool.{eqb-true}
+use Rattle.hn_base.proofs.Names.{◌∙◌, length, sym, eqb-true}
 use Rattle.hn_script.proofs.HexWords.{no_empty_hex_word}
 use Rattle.hn_script.proofs.fields.hex_word.Goals as goal
 

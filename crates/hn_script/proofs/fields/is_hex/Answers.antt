@@ -1,6 +1,5 @@
 -- Digits of an even count are what decodes.
-use Rattle.std.proofs.Common.{arith}
-use Rattle.std.proofs.lemmas.Bool.Decides.{nat_tests}
+use Rattle.hn_base.proofs.Names.{arith, nat_tests}
 use Rattle.hn_script.proofs.HexWords.{even_digits, hex_cases}
 use Rattle.hn_script.proofs.fields.is_hex.Goals as goal
 

@@ -1,10 +1,9 @@
 -- What is read is the prefix of the word; where nothing is, the word writes no prefix.
-use Rattle.std.proofs.Common.{◌≡◌, ℕ, List, Result, Ok, Err, MatchResult, IfOk, rules}
+use Rattle.hn_base.proofs.Names.{◌≡◌, ℕ, List, Result, Ok, Err, MatchResult, rules, PlainPrefix}
+use Rattle.hn_script.proofs.Names.{IsPrefixText, Prefixed}
+use Rattle.std.proofs.Common.{IfOk}
 use Rattle.std.specs.Result.{IsErrAnd}
-use Rattle.hn_base.specs.Prefix.{PlainPrefix}
-use Rattle.hn_prefix.specs.PrefixText.{IsPrefixText}
 use Rattle.hn_prefix.specs.declared.parse.BadText.{BadText}
-use Rattle.hn_script.specs.Field.{Prefixed}
 use Rattle.hn_script.specs.Reading.{ReadsField}
 use Rattle.hn_script.proofs.fields.prefix.Goals as goal
 

@@ -1,10 +1,6 @@
 -- With the lines of the rest after them, the lines so far are those of all bytes; a first fault of the rest is one of all.
-use Rattle.std.proofs.Common.{ℕ, ◌+◌, ◌≤◌, List, ◌++◌, length}
-use Rattle.hn_script.specs.Entries.{AreLines, FaultFrom}
-use Rattle.hn_script.specs.NodeFile.{of_node}
-use Rattle.hn_script.specs.Texts.{lines_of}
-use Rattle.hn_script.specs.declared.fault.ScriptFault.{ScriptFault}
-use Rattle.hn_script.specs.declared.node_file.NodeLine.{NodeLine}
+use Rattle.hn_base.proofs.Names.{ℕ, ◌+◌, ◌≤◌, List, ◌++◌, length}
+use Rattle.hn_script.proofs.Names.{AreLines, FaultFrom, of_node, lines_of, ScriptFault, NodeLine}
 use Rattle.hn_script.proofs.node_file.read_node_lines.Given as goal
 
 abbrev pub invariant-loop-text : goal.invariant-loop-text

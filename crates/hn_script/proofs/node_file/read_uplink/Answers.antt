@@ -1,4 +1,4 @@
-use Rattle.std.proofs.lemmas.Result.{err_from_is_err_and}
+use Rattle.hn_base.proofs.Names.{err_from_is_err_and}
 use Rattle.hn_script.proofs.NodeFiles.{external_fault}
 use Rattle.hn_script.proofs.node_file.read_uplink.Goals as goal
 

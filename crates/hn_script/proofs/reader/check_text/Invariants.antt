@@ -1,6 +1,6 @@
 -- The bytes so far are plain.
-use Rattle.std.proofs.Common.{take}
-use Rattle.hn_script.specs.Fault.{IsPlain}
+use Rattle.hn_base.proofs.Names.{take}
+use Rattle.hn_script.proofs.Names.{IsPlain}
 use Rattle.hn_script.proofs.reader.check_text.Given as goal
 
 abbrev pub invariant-loop-byte : goal.invariant-loop-byte

@@ -1,5 +1,5 @@
 -- What is wrong is what the reading says.
-use Rattle.std.proofs.Common.{rules}
+use Rattle.hn_base.proofs.Names.{rules}
 use Rattle.hn_script.proofs.reader.line_fault.Goals.{in-Ok, in-Err}
 use Rattle.hn_script.proofs.reader.line_fault.Goals as goal
 

@@ -1,8 +1,7 @@
 -- What is no text begins no line, since the first word of each line is one. A word of no line of the version is unknown;
 -- else its lines are all of the version.
-use Rattle.std.proofs.Common.{inl, refl, subst}
-use Rattle.std.specs.Str.{IsUtf8}
-use Rattle.hn_script.specs.Line.{line_spelling}
+use Rattle.hn_base.proofs.Names.{inl, refl, subst, IsUtf8}
+use Rattle.hn_script.proofs.Names.{line_spelling}
 use Rattle.hn_script.proofs.LineWords.{first_letters}
 use Rattle.hn_script.proofs.Versions.{draft_of_version}
 use Rattle.hn_script.proofs.WordBytes.{IsWord-from_letters, IsUtf8-word}

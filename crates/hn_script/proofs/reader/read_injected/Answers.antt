@@ -1,14 +1,6 @@
 -- The words after `inject`: each that writes no value of its kind is a fault of the line.
-use Rattle.std.proofs.Common.{◌≡◌, ℕ, ◌<◌, List, length, codes, inl, inr, refl, subst}
-use Rattle.std.proofs.lemmas.Result.{err_from_is_err_and}
-use Rattle.std.specs.List.{AllByRecursion, AllZip}
-use Rattle.hn_base.specs.declared.ids.EpId.{EpId}
-use Rattle.hn_base.specs.declared.name.Name.{Name}
-use Rattle.hn_script.specs.declared.line.How.{How}
-use Rattle.hn_script.specs.Fault.{FirstWordFault}
-use Rattle.hn_script.specs.Line.{line_spelling, every_line}
-use Rattle.hn_script.specs.declared.line.Line.TheVariants.{Inject}
-use Rattle.hn_script.specs.Field.{IsField}
+use Rattle.hn_base.proofs.Names.{◌≡◌, ℕ, ◌<◌, List, length, codes, inl, inr, refl, subst, err_from_is_err_and, AllByRecursion, AllZip}
+use Rattle.hn_script.proofs.Names.{EpId, Name, How, FirstWordFault, line_spelling, every_line, Inject, IsField}
 use Rattle.hn_script.proofs.LineWords.{word_fault, inject_lines, inject_follows}
 use Rattle.hn_script.proofs.Pieces.{words_some}
 use Rattle.hn_script.proofs.reader.read_injected.Goals as goal

@@ -1,5 +1,4 @@
-use Rattle.std.proofs.Common.{refl}
-use Rattle.std.proofs.lemmas.Result.{err_from_is_err_and}
+use Rattle.hn_base.proofs.Names.{refl, err_from_is_err_and}
 use Rattle.hn_script.proofs.LineWords.{word_fault, lone_lines, lone_follows}
 use Rattle.hn_script.proofs.reader.read_lone.Goals as goal
 

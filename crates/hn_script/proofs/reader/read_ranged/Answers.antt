@@ -1,6 +1,5 @@
 -- The words of each line fail as the words after its first do; and no other word begins a line.
-use Rattle.std.proofs.Common.{inl, refl}
-use Rattle.std.proofs.lemmas.Result.{err_from_is_err_and}
+use Rattle.hn_base.proofs.Names.{inl, refl, err_from_is_err_and}
 use Rattle.hn_script.proofs.LineWords.{word_fault, unknown_word, loss_lines, loss_follows, time_lines, time_follows, run_lines, run_follows}
 use Rattle.hn_script.proofs.reader.read_ranged.Goals as goal
 

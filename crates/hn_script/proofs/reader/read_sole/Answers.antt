@@ -1,6 +1,5 @@
 -- The words of each line fail as the words after its first do.
-use Rattle.std.proofs.Common.{inl, refl}
-use Rattle.std.proofs.lemmas.Result.{err_from_is_err_and}
+use Rattle.hn_base.proofs.Names.{inl, refl, err_from_is_err_and}
 use Rattle.hn_script.proofs.LineWords.{word_fault, router_lines, router_follows, attach_lines, attach_follows, caps_lines, caps_follows, elect_lines, elect_follows}
 use Rattle.hn_script.proofs.reader.read_sole.Goals as goal
 

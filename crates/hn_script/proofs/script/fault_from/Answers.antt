@@ -1,7 +1,6 @@
 -- A line has a fault or gives an entry; with its entry the lines go on.
-use Rattle.std.proofs.Common.{[], ◌∷◌, ◌++◌, inr, arith}
-use Rattle.hn_script.specs.Entries.{numbered}
-use Rattle.hn_script.specs.Line.{of_version}
+use Rattle.hn_base.proofs.Names.{[], ◌∷◌, ◌++◌, inr, arith}
+use Rattle.hn_script.proofs.Names.{numbered, of_version}
 use Rattle.hn_script.proofs.Entries.{no_lines, next_line, no_line_fault}
 use Rattle.hn_script.proofs.script.fault_from.Goals as goal
 

@@ -1,10 +1,6 @@
 -- Lines of the rest complete those of all bytes; a first fault of the rest is one of all.
-use Rattle.std.proofs.Common.{ℕ, ◌+◌, ◌≤◌, List, length}
-use Rattle.hn_script.specs.Entries.{AreLines, FaultFrom}
-use Rattle.hn_script.specs.Line.{of_version}
-use Rattle.hn_script.specs.Texts.{lines_of}
-use Rattle.hn_script.specs.declared.fault.ScriptFault.{ScriptFault}
-use Rattle.hn_script.specs.declared.line.Line.{Line}
+use Rattle.hn_base.proofs.Names.{ℕ, ◌+◌, ◌≤◌, List, length}
+use Rattle.hn_script.proofs.Names.{AreLines, FaultFrom, of_version, lines_of, ScriptFault, Line}
 use Rattle.hn_script.proofs.script.fault_from.Given as goal
 
 abbrev pub invariant-loop-text : goal.invariant-loop-text

@@ -1,10 +1,9 @@
 -- No fault of the first line and none after it: the lines after it are those of a script. A script has no fault.
-use Rattle.std.proofs.Common.{ℕ, List, Option, Some, None, inr, refl}
-use Rattle.std.specs.Prelude.{IfSome, IfNone}
-use Rattle.hn_script.specs.declared.fault.ScriptFault.{ScriptFault}
+use Rattle.hn_base.proofs.Names.{ℕ, List, Option, Some, None, inr, refl, IfNone}
+use Rattle.hn_script.proofs.Names.{ScriptFault, IsScript, Script}
+use Rattle.std.specs.Prelude.{IfSome}
 use Rattle.hn_script.specs.Laws.{HasFaultOrScript}
-use Rattle.hn_script.specs.Script.{IsScript, IsFirstFault}
-use Rattle.hn_script.specs.declared.script.Script.{Script}
+use Rattle.hn_script.specs.Script.{IsFirstFault}
 use Rattle.hn_script.proofs.SameScripts.{script_no_fault}
 use Rattle.hn_script.proofs.script.first_fault.Goals as goal
 

@@ -1,9 +1,6 @@
 -- Each line is added with its LF, until all are.
-use Rattle.std.proofs.Common.{ℕ, List, ◌∷◌, [], ◌++◌, map, sym, ap, ◌∙◌, arith, append_assoc}
-use Rattle.std.proofs.lemmas.List.{take_all}
-use Rattle.hn_script.specs.Line.{line_text}
-use Rattle.hn_script.specs.Script.{ended, first_line}
-use Rattle.hn_script.specs.declared.line.Line.{Line}
+use Rattle.hn_base.proofs.Names.{ℕ, List, ◌∷◌, [], ◌++◌, map, sym, ap, ◌∙◌, arith, append_assoc, take_all}
+use Rattle.hn_script.proofs.Names.{line_text, ended, first_line, Line}
 use Rattle.hn_script.proofs.Printed.{printed_more}
 use Rattle.hn_script.proofs.script.print.Goals as goal
 

@@ -1,8 +1,6 @@
 -- The lines so far are printed.
-use Rattle.std.proofs.Common.{◌≡◌, ◌∷◌, ℕ, map, take, string_bytes}
-use Rattle.hn_script.specs.Line.{line_text}
-use Rattle.hn_script.specs.Script.{ended, first_line}
-use Rattle.hn_script.specs.declared.line.Line.{Line}
+use Rattle.hn_base.proofs.Names.{◌≡◌, ◌∷◌, ℕ, map, take, string_bytes}
+use Rattle.hn_script.proofs.Names.{line_text, ended, first_line, Line}
 use Rattle.hn_script.proofs.script.print.Given as goal
 
 abbrev pub invariant-loop-line : goal.invariant-loop-line

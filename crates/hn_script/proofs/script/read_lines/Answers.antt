@@ -1,10 +1,6 @@
 -- A line gives an entry, and with it the lines go on.
-use Rattle.std.proofs.Common.{ℕ, List, [], ◌∷◌, ◌++◌, inr, ap, sym, ◌∙◌, subst, arith, append_assoc}
-use Rattle.std.proofs.lemmas.List.{append-nil}
-use Rattle.hn_script.specs.Entries.{AreLines, numbered}
-use Rattle.hn_script.specs.Line.{of_version}
-use Rattle.hn_script.specs.Texts.{lines_of}
-use Rattle.hn_script.specs.declared.line.Line.{Line}
+use Rattle.hn_base.proofs.Names.{ℕ, List, [], ◌∷◌, ◌++◌, inr, ap, sym, ◌∙◌, subst, arith, append_assoc, append-nil}
+use Rattle.hn_script.proofs.Names.{AreLines, numbered, of_version, lines_of, Line}
 use Rattle.hn_script.proofs.Entries.{no_lines, next_line, no_line_fault}
 use Rattle.hn_script.proofs.script.read_lines.Goals as goal
 

@@ -1,6 +1,5 @@
 -- A word that writes no value of its kind: the words write none together.
-use Rattle.std.proofs.Common.{inl, inr, refl}
-use Rattle.std.proofs.lemmas.Result.{err_from_is_err_and}
+use Rattle.hn_base.proofs.Names.{inl, inr, refl, err_from_is_err_and}
 use Rattle.hn_script.proofs.shapes.attachment.Goals as goal
 
 pub returns-in_err-endpoint : goal.returns-in_err-endpoint

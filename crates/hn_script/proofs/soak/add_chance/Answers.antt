@@ -1,4 +1,4 @@
-use Rattle.std.proofs.lemmas.Result.{on_ok_weaker}
+use Rattle.hn_base.proofs.Names.{on_ok_weaker}
 use Rattle.hn_script.specs.Soak.{chance_texts}
 use Rattle.hn_script.proofs.SoakTexts.{seed_line, loss_line, adds_one, adds_then}
 use Rattle.hn_script.proofs.soak.add_chance.Goals as goal

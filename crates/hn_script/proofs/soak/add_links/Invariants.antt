@@ -1,5 +1,4 @@
-use Rattle.hn_script.specs.Soak.{up_to, link_texts}
-use Rattle.hn_script.specs.SoakLines.{Adds}
+use Rattle.hn_script.proofs.Names.{up_to, link_texts, Adds}
 use Rattle.hn_script.proofs.soak.add_links.Given as goal
 
 -- those of the numbers up to k are added

@@ -1,4 +1,4 @@
-use Rattle.std.proofs.lemmas.Result.{on_ok_weaker}
+use Rattle.hn_base.proofs.Names.{on_ok_weaker}
 use Rattle.hn_script.specs.Soak.{report_texts}
 use Rattle.hn_script.proofs.SoakTexts.{first_name, compare_line, audit_line, used_line, prefixes_line, mail_line, show_line, adds_one, adds_then}
 use Rattle.hn_script.proofs.soak.add_reports.Goals as goal

@@ -1,4 +1,4 @@
-use Rattle.std.proofs.lemmas.Result.{on_ok_weaker}
+use Rattle.hn_base.proofs.Names.{on_ok_weaker}
 use Rattle.hn_script.specs.Soak.{router_texts}
 use Rattle.hn_script.proofs.SoakTexts.{router_line, second_attach_line, adds_one, adds_both, adds_then}
 use Rattle.hn_script.proofs.soak.add_router.Goals as goal

@@ -1,4 +1,4 @@
-use Rattle.hn_script.specs.Soak.{router_texts}
+use Rattle.hn_script.proofs.Names.{router_texts}
 use Rattle.hn_script.proofs.SoakTexts.{adds_none, adds_more, adds_end}
 use Rattle.hn_script.proofs.soak.add_routers.Goals as goal
 

@@ -1,5 +1,4 @@
-use Rattle.hn_script.specs.Soak.{up_to, router_texts}
-use Rattle.hn_script.specs.SoakLines.{Adds}
+use Rattle.hn_script.proofs.Names.{up_to, router_texts, Adds}
 use Rattle.hn_script.proofs.soak.add_routers.Given as goal
 
 -- those of the numbers up to k are added

@@ -1,4 +1,4 @@
-use Rattle.std.proofs.lemmas.Result.{on_ok_weaker}
+use Rattle.hn_base.proofs.Names.{on_ok_weaker}
 use Rattle.hn_script.specs.Soak.{run_texts}
 use Rattle.hn_script.proofs.SoakTexts.{first_name, external_line, run_line, adds_one, adds_then}
 use Rattle.hn_script.proofs.soak.add_run.Goals as goal

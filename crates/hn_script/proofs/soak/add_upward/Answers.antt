@@ -1,4 +1,4 @@
-use Rattle.std.proofs.lemmas.Result.{on_ok_weaker}
+use Rattle.hn_base.proofs.Names.{on_ok_weaker}
 use Rattle.hn_script.proofs.SoakTexts.{first_attach_line, adds_one, adds_no_upward, adds_upward}
 use Rattle.hn_script.proofs.soak.add_upward.Goals as goal
 

@@ -1,6 +1,5 @@
-use Rattle.std.proofs.Common.{◌++◌, ℕ, List, [], ◌∷◌, ◌∙◌, ap, sym, arith, map, Some, append_assoc, length-append}
-use Rattle.hn_script.specs.Entries.{numbered}
-use Rattle.hn_script.specs.declared.line.Line.{Line}
+use Rattle.hn_base.proofs.Names.{◌++◌, ℕ, List, [], ◌∷◌, ◌∙◌, ap, sym, arith, map, Some, append_assoc, length-append}
+use Rattle.hn_script.proofs.Names.{numbered, Line}
 use Rattle.hn_script.proofs.SoakScripts.{numbered_more}
 use Rattle.hn_script.proofs.soak.numbered.Goals as goal
 

@@ -1,5 +1,5 @@
-use Rattle.std.proofs.Common.{◌≡◌, ◌+◌, ◌++◌, Some, length, map}
-use Rattle.hn_script.specs.Entries.{numbered}
+use Rattle.hn_base.proofs.Names.{◌≡◌, ◌+◌, ◌++◌, Some, length, map}
+use Rattle.hn_script.proofs.Names.{numbered}
 use Rattle.hn_script.proofs.soak.numbered.Given as goal
 
 -- the lines so far have their numbers

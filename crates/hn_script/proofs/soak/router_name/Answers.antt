@@ -1,5 +1,4 @@
-use Rattle.std.proofs.Common.{refl, sym, subst, ◌∙◌, arith}
-use Rattle.hn_base.specs.NameText.{IsNameText}
+use Rattle.hn_base.proofs.Names.{refl, sym, subst, ◌∙◌, arith, IsNameText}
 use Rattle.hn_script.proofs.SoakTexts.{numbered_name}
 use Rattle.hn_script.proofs.soak.router_name.Goals as goal
 

@@ -1,8 +1,5 @@
-use Rattle.std.proofs.Common.{ℕ, List, sym, subst}
-use Rattle.hn_script.specs.Script.{IsScript}
-use Rattle.hn_script.specs.Soak.{soak_text}
-use Rattle.hn_script.specs.declared.line.Line.{Line}
-use Rattle.hn_base.specs.declared.version.Version.TheVariants.{One}
+use Rattle.hn_base.proofs.Names.{ℕ, List, sym, subst}
+use Rattle.hn_script.proofs.Names.{IsScript, soak_text, Line, One}
 use Rattle.hn_script.proofs.SoakScripts.{soak_so, soak_few, adds_all}
 use Rattle.hn_script.proofs.soak.soak_script.Goals as goal
 

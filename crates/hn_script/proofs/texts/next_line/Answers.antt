@@ -1,6 +1,5 @@
 -- The lines of bytes, cut at their first LF.
-use Rattle.std.proofs.Common.{◌<◌, [], ◌∷◌, length, arith, ap, sym, ◌∙◌, refl}
-use Rattle.std.proofs.lemmas.Bool.Decides.{nat_tests}
+use Rattle.hn_base.proofs.Names.{◌<◌, [], ◌∷◌, length, arith, ap, sym, ◌∙◌, refl, nat_tests}
 use Rattle.hn_script.proofs.Pieces.{lines_none, lines_last, lines_cut}
 use Rattle.hn_script.proofs.texts.next_line.Goals as goal
 

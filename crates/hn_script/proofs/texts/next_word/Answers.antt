@@ -1,6 +1,5 @@
 -- The words of a text, cut at its first space.
-use Rattle.std.proofs.Common.{◌≡◌, ◌<◌, [], ◌∷◌, length, arith, ap, sym, ◌∙◌, refl}
-use Rattle.std.proofs.lemmas.Bool.Decides.{nat_tests}
+use Rattle.hn_base.proofs.Names.{◌≡◌, ◌<◌, [], ◌∷◌, length, arith, ap, sym, ◌∙◌, refl, nat_tests}
 use Rattle.hn_script.proofs.Pieces.{words_none, words_last, words_cut, words_gap}
 use Rattle.hn_script.proofs.texts.next_word.Goals as goal
 

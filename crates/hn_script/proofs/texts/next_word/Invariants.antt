@@ -1,6 +1,6 @@
 -- The words of the rest are those of the text.
-use Rattle.std.proofs.Common.{◌≡◌, length}
-use Rattle.hn_script.specs.Texts.{words_of}
+use Rattle.hn_base.proofs.Names.{◌≡◌, length}
+use Rattle.hn_script.proofs.Names.{words_of}
 use Rattle.hn_script.proofs.texts.next_word.Given as goal
 
 abbrev pub invariant-loop-piece : goal.invariant-loop-piece

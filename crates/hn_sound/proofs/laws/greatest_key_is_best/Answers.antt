@@ -1,4 +1,4 @@
-use Rattle.std.proofs.Common.{inl, inr}
+use Rattle.hn_base.proofs.Names.{inl, inr}
 use Rattle.hn_sound.proofs.GreatestIsBest.{top_is_best, top_or_none}
 use Rattle.hn_sound.proofs.laws.greatest_key_is_best.Goals as goal
 

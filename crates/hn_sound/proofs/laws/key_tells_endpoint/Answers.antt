@@ -1,4 +1,4 @@
-use Rattle.hn_sound.specs.Home.{key_at}
+use Rattle.hn_sound.proofs.Names.{key_at}
 use Rattle.hn_sound.proofs.SameOrNot.{key_cmp_itself}
 use Rattle.hn_sound.proofs.GreatestIsBest.{key_tells}
 use Rattle.hn_sound.proofs.laws.key_tells_endpoint.Goals as goal

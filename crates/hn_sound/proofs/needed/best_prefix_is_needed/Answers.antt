@@ -1,7 +1,6 @@
-use Rattle.std.proofs.Common.{refl, arith, None, Some}
-use Rattle.hn_sound.specs.Homes.{two_prefixes, first, second}
-use Rattle.hn_sound.specs.Conditions.Condition.{BestPrefix}
-use Rattle.hn_sound.specs.Written.{delegated, subnet}
+use Rattle.hn_base.proofs.Names.{refl, arith, None, Some}
+use Rattle.hn_sound.proofs.Names.{first, second, BestPrefix, delegated, subnet}
+use Rattle.hn_sound.specs.Homes.{two_prefixes}
 use Rattle.hn_sound.proofs.HomeTests.{home_from, each_pair_from}
 use Rattle.hn_sound.proofs.RestTests.{is_at_rest_but, at_rest_but_from}
 use Rattle.hn_sound.proofs.Unsound.{same_prefixes}

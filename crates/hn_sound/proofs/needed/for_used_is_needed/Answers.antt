@@ -1,7 +1,6 @@
-use Rattle.std.proofs.Common.{refl, arith, None}
-use Rattle.hn_sound.specs.Homes.{not_used, first, second}
-use Rattle.hn_sound.specs.Premises.Premise.{ForUsed}
-use Rattle.hn_sound.specs.Written.{delegated, subnet}
+use Rattle.hn_base.proofs.Names.{refl, arith, None}
+use Rattle.hn_sound.proofs.Names.{first, second, ForUsed, delegated, subnet}
+use Rattle.hn_sound.specs.Homes.{not_used}
 use Rattle.hn_sound.proofs.HomeTests.{home_but_from, each_pair_from}
 use Rattle.hn_sound.proofs.RestTests.{is_at_rest, at_rest_from}
 use Rattle.hn_sound.proofs.Unsound.{no_lonely}

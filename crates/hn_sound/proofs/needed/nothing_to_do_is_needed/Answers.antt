@@ -1,10 +1,6 @@
-use Rattle.std.proofs.Common.{refl, arith}
-use Rattle.hn_base.proofs.AscendingLists.{nothing_in}
-use Rattle.hn_assign.specs.Best.{IsFreeIn}
-use Rattle.hn_sound.specs.Home.{advertised}
-use Rattle.hn_sound.specs.Homes.{nothing_assigned, first}
-use Rattle.hn_sound.specs.Conditions.Condition.{NothingToDo}
-use Rattle.hn_sound.specs.Written.{delegated, subnet}
+use Rattle.hn_base.proofs.Names.{refl, arith}
+use Rattle.hn_sound.proofs.Names.{nothing_in, IsFreeIn, advertised, first, NothingToDo, delegated, subnet}
+use Rattle.hn_sound.specs.Homes.{nothing_assigned}
 use Rattle.hn_sound.proofs.HomeTests.{home_from, each_pair_from}
 use Rattle.hn_sound.proofs.RestTests.{is_at_rest_but, at_rest_but_from}
 use Rattle.hn_sound.proofs.PrefixTests.{within_from}

@@ -1,8 +1,6 @@
-use Rattle.std.proofs.Common.{refl, arith, ap}
-use Rattle.hn_assign.specs.declared.assigned.Assigned.{Assigned}
-use Rattle.hn_sound.specs.Homes.{twice_on_link, first}
-use Rattle.hn_sound.specs.Premises.Premise.{OnceOnLink}
-use Rattle.hn_sound.specs.Written.{delegated, subnet, endpoint}
+use Rattle.hn_base.proofs.Names.{refl, arith, ap}
+use Rattle.hn_sound.proofs.Names.{Assigned, first, OnceOnLink, delegated, subnet, endpoint}
+use Rattle.hn_sound.specs.Homes.{twice_on_link}
 use Rattle.hn_sound.proofs.HomeTests.{home_but_from, each_pair_from}
 use Rattle.hn_sound.proofs.RestTests.{is_at_rest, at_rest_from}
 use Rattle.hn_sound.proofs.Unsound.{one_published}

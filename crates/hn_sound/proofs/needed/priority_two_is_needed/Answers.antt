@@ -1,7 +1,6 @@
-use Rattle.std.proofs.Common.{refl, arith, Some}
-use Rattle.hn_sound.specs.Homes.{low_priority, first, far}
-use Rattle.hn_sound.specs.Premises.Premise.{PriorityTwo}
-use Rattle.hn_sound.specs.Written.{delegated, subnet}
+use Rattle.hn_base.proofs.Names.{refl, arith, Some}
+use Rattle.hn_sound.proofs.Names.{first, far, PriorityTwo, delegated, subnet}
+use Rattle.hn_sound.specs.Homes.{low_priority}
 use Rattle.hn_sound.proofs.HomeTests.{home_but_from, each_pair_from}
 use Rattle.hn_sound.proofs.RestTests.{is_at_rest, at_rest_from}
 use Rattle.hn_sound.proofs.WrittenLemmas.{has_it, overlaps_itself}

@@ -1,9 +1,6 @@
-use Rattle.std.proofs.Common.{refl, arith, None}
-use Rattle.hn_base.proofs.AscendingLists.{nothing_in}
-use Rattle.hn_sound.specs.Sound.{HasNoPublisher}
-use Rattle.hn_sound.specs.Homes.{no_publisher, first}
-use Rattle.hn_sound.specs.Conditions.Condition.{Published}
-use Rattle.hn_sound.specs.Written.{delegated, subnet}
+use Rattle.hn_base.proofs.Names.{refl, arith, None}
+use Rattle.hn_sound.proofs.Names.{nothing_in, HasNoPublisher, first, Published, delegated, subnet}
+use Rattle.hn_sound.specs.Homes.{no_publisher}
 use Rattle.hn_sound.proofs.GreatestIsBest.{is_advertised}
 use Rattle.hn_sound.proofs.HomeTests.{home_from, each_pair_from}
 use Rattle.hn_sound.proofs.RestTests.{is_at_rest_but, at_rest_but_from}

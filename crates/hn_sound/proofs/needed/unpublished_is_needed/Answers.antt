@@ -1,7 +1,6 @@
-use Rattle.std.proofs.Common.{refl, arith}
-use Rattle.hn_sound.specs.Homes.{published_twice, first, second}
-use Rattle.hn_sound.specs.Conditions.Condition.{Unpublished}
-use Rattle.hn_sound.specs.Written.{delegated, subnet}
+use Rattle.hn_base.proofs.Names.{refl, arith}
+use Rattle.hn_sound.proofs.Names.{first, second, Unpublished, delegated, subnet}
+use Rattle.hn_sound.specs.Homes.{published_twice}
 use Rattle.hn_sound.proofs.HomeTests.{home_from, each_pair_from}
 use Rattle.hn_sound.proofs.RestTests.{is_at_rest_but, at_rest_but_from}
 use Rattle.hn_sound.proofs.Unsound.{one_published}

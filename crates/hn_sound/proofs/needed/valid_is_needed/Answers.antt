@@ -1,7 +1,6 @@
-use Rattle.std.proofs.Common.{refl, arith, Some}
-use Rattle.hn_sound.specs.Homes.{one_for_two_links, first, far}
-use Rattle.hn_sound.specs.Conditions.Condition.{Valid}
-use Rattle.hn_sound.specs.Written.{delegated, subnet}
+use Rattle.hn_base.proofs.Names.{refl, arith, Some}
+use Rattle.hn_sound.proofs.Names.{first, far, Valid, delegated, subnet}
+use Rattle.hn_sound.specs.Homes.{one_for_two_links}
 use Rattle.hn_sound.proofs.HomeTests.{home_from, each_pair_from}
 use Rattle.hn_sound.proofs.RestTests.{is_at_rest_but, at_rest_but_from}
 use Rattle.hn_sound.proofs.WrittenLemmas.{has_it, overlaps_itself}

@@ -1,10 +1,6 @@
-use Rattle.std.proofs.Common.{refl, arith, Some}
-use Rattle.hn_base.specs.Prefix.{PlainPrefix}
-use Rattle.hn_sound.specs.AtRest.{IsHomeAtRest}
-use Rattle.hn_sound.specs.Home.{EndpointHasAssignment}
-use Rattle.hn_sound.specs.Premises.{IsHome}
+use Rattle.hn_base.proofs.Names.{refl, arith, Some, PlainPrefix}
+use Rattle.hn_sound.proofs.Names.{IsHomeAtRest, EndpointHasAssignment, IsHome, delegated, subnet, endpoint, has}
 use Rattle.hn_sound.specs.Worked.{home_with, overlapping}
-use Rattle.hn_sound.specs.Written.{delegated, subnet, endpoint, has}
 use Rattle.hn_sound.proofs.HomeTests.{home_from}
 use Rattle.hn_sound.proofs.RestIsSound.{sound}
 use Rattle.hn_sound.proofs.WrittenLemmas.{has_it}

@@ -1,9 +1,8 @@
-use Rattle.std.proofs.Common.{refl}
+use Rattle.hn_base.proofs.Names.{refl}
+use Rattle.hn_sound.proofs.Names.{IsHome, IsHomeAtRest}
 use Rattle.hn_sound.specs.Worked.{worked}
 use Rattle.hn_sound.proofs.HomeTests.{home_from, each_pair_from}
 use Rattle.hn_sound.proofs.RestTests.{is_at_rest, at_rest_from}
-use Rattle.hn_sound.specs.Premises.{IsHome}
-use Rattle.hn_sound.specs.AtRest.{IsHomeAtRest}
 use Rattle.hn_sound.proofs.RestIsSound.{sound}
 use Rattle.hn_sound.proofs.worked.worked_home_is_sound.Goals as goal
 

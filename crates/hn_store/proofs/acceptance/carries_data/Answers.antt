@@ -1,6 +1,5 @@
-use Rattle.std.proofs.Common.{◌≡◌, ◌∙◌, [], ap, sym, inl, inr, arith}
-use Rattle.std.proofs.lemmas.Grind.{common_steps}
-use Rattle.hn_hash.specs.Hash.{hash_of}
+use Rattle.hn_base.proofs.Names.{◌≡◌, ◌∙◌, [], ap, sym, inl, inr, arith, common_steps}
+use Rattle.hn_store.proofs.Names.{hash_of}
 use Rattle.hn_store.proofs.acceptance.carries_data.Goals as goal
 
 pub returns-else-not-is_empty : goal.returns-else-not-is_empty

@@ -1,5 +1,5 @@
-use Rattle.std.proofs.Common.{not}
-use Rattle.hn_store.specs.Loss.{is_forgotten}
+use Rattle.hn_base.proofs.Names.{not}
+use Rattle.hn_store.proofs.Names.{is_forgotten}
 use Rattle.hn_store.proofs.TableStays.{IsTable-none, IsTable-filter}
 use Rattle.hn_store.proofs.Losses.{IsTable-marked}
 use Rattle.hn_store.proofs.laws.loss_keeps_table.Goals as goal

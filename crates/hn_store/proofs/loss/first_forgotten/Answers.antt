@@ -1,5 +1,5 @@
 use Rattle.hn_base.proofs.NextDue.{sooner_each}
-use Rattle.hn_store.specs.Due.{IsForgottenFrom}
+use Rattle.hn_store.proofs.Names.{IsForgottenFrom}
 use Rattle.hn_store.proofs.loss.first_forgotten.Goals as goal
 
 pub loop-node-preserved : goal.loop-node-preserved

@@ -1,5 +1,4 @@
-use Rattle.std.proofs.Common.{take}
-use Rattle.hn_base.specs.Sooner.{IsSooner}
+use Rattle.hn_base.proofs.Names.{take, IsSooner}
 use Rattle.hn_store.specs.Due.{IsForgetting}
 use Rattle.hn_store.proofs.loss.first_forgotten.Given as goal
 

@@ -1,4 +1,4 @@
-use Rattle.std.proofs.Common.{◌∙◌}
+use Rattle.hn_base.proofs.Names.{◌∙◌}
 use Rattle.hn_store.proofs.Losses.{among_from_search}
 use Rattle.hn_store.proofs.loss.is_among.Goals as goal
 

@@ -1,8 +1,6 @@
-use Rattle.std.proofs.Common.{◌∙◌, get_or, set, sym, ap}
-use Rattle.std.specs.Prelude.{Option, ℕ}
-use Rattle.std.proofs.lemmas.List.Edits.{map_over_more}
-use Rattle.hn_store.specs.declared.stored.HeldNode.{HeldNode}
-use Rattle.hn_store.specs.Loss.{marked_node, lost_after}
+use Rattle.hn_base.proofs.Names.{◌∙◌, get_or, set, sym, ap, map_over_more}
+use Rattle.hn_store.proofs.Names.{Option, HeldNode, marked_node, lost_after}
+use Rattle.std.specs.Prelude.{ℕ}
 use Rattle.hn_store.proofs.loss.mark_each.Goals as goal
 
 pub loop-node-preserved : goal.loop-node-preserved

@@ -1,5 +1,5 @@
-use Rattle.std.proofs.Common.{◌≡◌, ◌++◌, map, take, drop}
-use Rattle.hn_store.specs.Loss.{marked_node}
+use Rattle.hn_base.proofs.Names.{◌≡◌, ◌++◌, map, take, drop}
+use Rattle.hn_store.proofs.Names.{marked_node}
 use Rattle.hn_store.proofs.loss.mark_each.Given as goal
 
 -- the nodes so far are marked, and the others are as they were

@@ -1,5 +1,4 @@
-use Rattle.std.proofs.Common.{◌∙◌, get_or, sym}
-use Rattle.std.proofs.lemmas.Bool.{eqb-true}
+use Rattle.hn_base.proofs.Names.{◌∙◌, get_or, sym, eqb-true}
 use Rattle.hn_store.proofs.NodePlaces.{stands-at}
 use Rattle.hn_store.proofs.place.near.Goals as goal
 

@@ -1,6 +1,5 @@
-use Rattle.std.proofs.Common.{rules}
-use Rattle.std.proofs.lemmas.List.Sorted.{answers_always}
-use Rattle.hn_store.specs.declared.stored.HeldNode.{HeldNode}
+use Rattle.hn_base.proofs.Names.{rules, answers_always}
+use Rattle.hn_store.proofs.Names.{HeldNode}
 use Rattle.hn_store.proofs.NodePlaces.{searched}
 use Rattle.hn_store.proofs.place.place_of.Goals as goal
 

@@ -1,6 +1,5 @@
-use Rattle.std.proofs.Common.{◌≡◌, ◌∙◌, Err, ap, sym, arith}
-use Rattle.std.proofs.lemmas.Result.{err_from_is_err_and}
-use Rattle.hn_base.proofs.Results.{same_error}
+use Rattle.hn_base.proofs.Names.{◌≡◌, ◌∙◌, Err, ap, sym, arith, err_from_is_err_and}
+use Rattle.hn_sync.proofs.Names.{same_error}
 use Rattle.hn_world.specs.declared.event.WorldFault.TheVariants as fault
 use Rattle.hn_sync.proofs.Delivered.{came_more, refused_then, cut_then}
 use Rattle.hn_sync.proofs.exchange.deliver_after.Goals as goal

@@ -1,4 +1,4 @@
-use Rattle.std.proofs.Common.{◌-◌, length}
+use Rattle.hn_base.proofs.Names.{◌-◌, length}
 use Rattle.hn_sync.proofs.Delivered.{Came}
 use Rattle.hn_sync.proofs.exchange.deliver_after.Given as goal
 

@@ -1,10 +1,5 @@
-use Rattle.std.proofs.Common.{◌≡◌, ◌∙◌, [], ◌∷◌, Some, ap, sym}
-use Rattle.hn_base.specs.Name.{name_text}
-use Rattle.hn_base.specs.declared.ids.NodeId.{NodeId}
-use Rattle.hn_dncp.specs.Packing.{datagram_of}
-use Rattle.hn_world.specs.Names.{router_place}
-use Rattle.hn_sync.specs.Exchange.{request}
-use Rattle.hn_sync.specs.Joined.{joint_of}
+use Rattle.hn_base.proofs.Names.{◌≡◌, ◌∙◌, [], ◌∷◌, Some, ap, sym, name_text}
+use Rattle.hn_sync.proofs.Names.{NodeId, datagram_of, router_place, request, joint_of}
 use Rattle.hn_sync.proofs.Asked.{there_are, question_is}
 use Rattle.hn_sync.proofs.question.question.Goals as goal
 use Rattle.hn_sync.proofs.question.question.Goals.{in_default-2-via-in-Some+in_default, in_default-2-via-in_default}

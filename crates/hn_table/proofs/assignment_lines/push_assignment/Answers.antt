@@ -1,6 +1,4 @@
-use Rattle.std.proofs.Common.{◌≡◌, ◌++◌, append_assoc, string_bytes}
-use Rattle.std.specs.Prelude.{OnOk}
-use Rattle.std.proofs.lemmas.Result.{on_ok_weaker}
+use Rattle.hn_base.proofs.Names.{◌≡◌, ◌++◌, append_assoc, string_bytes, OnOk, on_ok_weaker}
 use Rattle.hn_table.proofs.Lists.{assignment_line, assignment_told}
 use Rattle.hn_table.proofs.assignment_lines.push_assignment.Goals as goal
 

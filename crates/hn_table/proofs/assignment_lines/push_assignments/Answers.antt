@@ -1,5 +1,5 @@
-use Rattle.std.proofs.Common.{string_bytes}
-use Rattle.hn_table.specs.Lines.{assigned_line}
+use Rattle.hn_base.proofs.Names.{string_bytes}
+use Rattle.hn_table.proofs.Names.{assigned_line}
 use Rattle.hn_table.proofs.Lists.{told_more}
 use Rattle.hn_table.proofs.assignment_lines.push_assignments.Goals as goal
 

@@ -1,6 +1,5 @@
-use Rattle.std.proofs.Common.{◌≡◌, ◌++◌, take, string_bytes}
-use Rattle.std.specs.List.{flat_map}
-use Rattle.hn_table.specs.Lines.{assigned_line}
+use Rattle.hn_base.proofs.Names.{◌≡◌, ◌++◌, take, string_bytes, flat_map}
+use Rattle.hn_table.proofs.Names.{assigned_line}
 use Rattle.hn_table.proofs.assignment_lines.push_assignments.Given as goal
 
 -- those so far have a line each

@@ -1,4 +1,4 @@
-use Rattle.std.proofs.Common.{◌∙◌, Err, ap, subst, List, ℕ}
+use Rattle.hn_base.proofs.Names.{◌∙◌, Err, ap, subst, List, ℕ}
 use Rattle.hn_tlv.specs.Grammar.{FirstFault}
 use Rattle.hn_table.proofs.data_lines.decoded.Goals as goal
 

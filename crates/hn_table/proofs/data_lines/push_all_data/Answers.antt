@@ -1,6 +1,5 @@
-use Rattle.std.proofs.Common.{string_bytes}
-use Rattle.hn_store.specs.declared.stored.HeldNode.{HeldNode}
-use Rattle.hn_table.specs.Data.{IsDataText}
+use Rattle.hn_base.proofs.Names.{string_bytes}
+use Rattle.hn_table.proofs.Names.{HeldNode, IsDataText}
 use Rattle.hn_table.proofs.Orders.{adds_more}
 use Rattle.hn_table.proofs.data_lines.push_all_data.Goals as goal
 

@@ -1,6 +1,5 @@
-use Rattle.std.proofs.Common.{take, string_bytes}
-use Rattle.hn_table.specs.Data.{IsDataText}
-use Rattle.hn_table.specs.InOrder.{InOrder, Adds}
+use Rattle.hn_base.proofs.Names.{take, string_bytes}
+use Rattle.hn_table.proofs.Names.{IsDataText, InOrder, Adds}
 use Rattle.hn_table.proofs.data_lines.push_all_data.Given as goal
 
 -- those of the nodes so far were added

@@ -1,6 +1,5 @@
-use Rattle.std.proofs.Common.{string_bytes}
-use Rattle.hn_data.specs.View.{plain_view}
-use Rattle.hn_table.specs.Delegated.{AreSeenLines}
+use Rattle.hn_base.proofs.Names.{string_bytes}
+use Rattle.hn_table.proofs.Names.{plain_view, AreSeenLines}
 use Rattle.hn_table.proofs.Orders.{adds_more}
 use Rattle.hn_table.proofs.delegated_lines.push_all_seen.Goals as goal
 

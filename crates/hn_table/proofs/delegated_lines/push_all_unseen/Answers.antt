@@ -1,9 +1,6 @@
-use Rattle.std.proofs.Common.{rules, ◌≡◌, ◌∙◌, ◌+◌, Bool, true, false, take, sym, ap, subst, string_bytes, String, Global}
-use Rattle.std.specs.Prelude.{not, filter}
-use Rattle.hn_store.specs.Loss.{is_among}
-use Rattle.hn_store.specs.declared.stored.HeldNode.{HeldNode}
-use Rattle.hn_table.specs.Delegated.{AreUnseenLines}
-use Rattle.hn_table.specs.InOrder.{InOrder, Adds}
+use Rattle.hn_base.proofs.Names.{rules, ◌≡◌, ◌∙◌, ◌+◌, Bool, true, false, take, sym, ap, subst, string_bytes, Global}
+use Rattle.hn_table.proofs.Names.{not, filter, is_among, HeldNode, AreUnseenLines, InOrder, Adds}
+use Rattle.std.proofs.Common.{String}
 use Rattle.hn_table.proofs.Orders.{adds_kept, adds_left}
 use Rattle.hn_table.proofs.delegated_lines.push_all_unseen.Goals as goal
 use Rattle.hn_table.proofs.delegated_lines.push_all_unseen.Goals.{then-not-is_among+in_ok-push_unseen, else-not-is_among}

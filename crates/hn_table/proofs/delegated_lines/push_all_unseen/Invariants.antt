@@ -1,8 +1,5 @@
-use Rattle.std.proofs.Common.{take, string_bytes}
-use Rattle.std.specs.Prelude.{not, filter}
-use Rattle.hn_store.specs.Loss.{is_among}
-use Rattle.hn_table.specs.Delegated.{AreUnseenLines}
-use Rattle.hn_table.specs.InOrder.{InOrder, Adds}
+use Rattle.hn_base.proofs.Names.{take, string_bytes}
+use Rattle.hn_table.proofs.Names.{not, filter, is_among, AreUnseenLines, InOrder, Adds}
 use Rattle.hn_table.proofs.delegated_lines.push_all_unseen.Given as goal
 
 -- those of the nodes so far have their lines

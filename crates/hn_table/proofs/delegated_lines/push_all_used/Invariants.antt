@@ -1,5 +1,4 @@
-use Rattle.std.proofs.Common.{◌≡◌, ◌++◌, take, string_bytes}
-use Rattle.std.specs.List.{flat_map}
+use Rattle.hn_base.proofs.Names.{◌≡◌, ◌++◌, take, string_bytes, flat_map}
 use Rattle.hn_table.specs.Delegated.{used_line}
 use Rattle.hn_table.proofs.delegated_lines.push_all_used.Given as goal
 

@@ -1,7 +1,5 @@
-use Rattle.std.proofs.Common.{refl, string_bytes}
-use Rattle.hn_data.specs.View.{plain_view}
-use Rattle.hn_table.specs.Delegated.{IsFateLine}
-use Rattle.hn_table.specs.FateText.{delegated_line}
+use Rattle.hn_base.proofs.Names.{refl, string_bytes}
+use Rattle.hn_table.proofs.Names.{plain_view, IsFateLine, delegated_line}
 use Rattle.hn_table.proofs.Orders.{adds_more, adds_all, adds_said}
 use Rattle.hn_table.proofs.Outers.{has_this}
 use Rattle.hn_table.proofs.delegated_lines.push_seen.Goals as goal

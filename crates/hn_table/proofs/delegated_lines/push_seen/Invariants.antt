@@ -1,7 +1,5 @@
-use Rattle.std.proofs.Common.{take, string_bytes}
-use Rattle.hn_data.specs.View.{plain_view}
-use Rattle.hn_table.specs.Delegated.{IsFateLine}
-use Rattle.hn_table.specs.InOrder.{InOrder, Adds}
+use Rattle.hn_base.proofs.Names.{take, string_bytes}
+use Rattle.hn_table.proofs.Names.{plain_view, IsFateLine, InOrder, Adds}
 use Rattle.hn_table.proofs.delegated_lines.push_seen.Given as goal
 
 -- those so far have a line each

@@ -1,7 +1,5 @@
-use Rattle.std.proofs.Common.{◌≡◌, List, ℕ, refl, string_bytes}
-use Rattle.hn_data.specs.declared.said.Delegation.{Delegation}
-use Rattle.hn_table.specs.FateText.{delegated_line}
-use Rattle.hn_table.specs.declared.fate.Fate.TheVariants.{Unreachable}
+use Rattle.hn_base.proofs.Names.{◌≡◌, List, ℕ, refl, string_bytes}
+use Rattle.hn_table.proofs.Names.{Delegation, delegated_line, Unreachable}
 use Rattle.hn_table.proofs.Orders.{adds_more, adds_all, adds_said}
 use Rattle.hn_table.proofs.delegated_lines.push_unseen.Goals as goal
 

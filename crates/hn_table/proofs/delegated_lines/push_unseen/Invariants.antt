@@ -1,7 +1,5 @@
-use Rattle.std.proofs.Common.{◌≡◌, take, string_bytes}
-use Rattle.hn_table.specs.FateText.{delegated_line}
-use Rattle.hn_table.specs.InOrder.{InOrder, Adds}
-use Rattle.hn_table.specs.declared.fate.Fate.TheVariants.{Unreachable}
+use Rattle.hn_base.proofs.Names.{◌≡◌, take, string_bytes}
+use Rattle.hn_table.proofs.Names.{delegated_line, InOrder, Adds, Unreachable}
 use Rattle.hn_table.proofs.delegated_lines.push_unseen.Given as goal
 
 -- those so far have a line each

@@ -1,7 +1,5 @@
-use Rattle.std.proofs.Common.{rules, ◌≡◌, ◌≤◌, ◌∙◌, IsTrue, false, sym, subst, arith}
-use Rattle.std.proofs.lemmas.Bool.{false≢true}
-use Rattle.hn_data.specs.View.{plain_view}
-use Rattle.hn_deleg.specs.Used.{IsOutermost}
+use Rattle.hn_base.proofs.Names.{rules, ◌≡◌, ◌≤◌, ◌∙◌, IsTrue, false, sym, subst, arith, false≢true}
+use Rattle.hn_table.proofs.Names.{plain_view, IsOutermost}
 use Rattle.hn_table.proofs.Fates.{among_prefixes, from_prefixes, candidate_of, announced_prefix, past_of, some_left}
 use Rattle.hn_table.proofs.fate.fate_of.Goals as goal
 

@@ -1,6 +1,5 @@
-use Rattle.std.proofs.Common.{refl}
-use Rattle.std.proofs.lemmas.List.Elements.{All-contains}
-use Rattle.hn_table.specs.Outer.{IsNoOuter}
+use Rattle.hn_base.proofs.Names.{refl, All-contains}
+use Rattle.hn_table.proofs.Names.{IsNoOuter}
 use Rattle.hn_table.proofs.Outers.{each, each_more, has_this}
 use Rattle.hn_table.proofs.outer.outer_among.Goals as goal
 

@@ -1,5 +1,5 @@
-use Rattle.std.proofs.Common.{All, take}
-use Rattle.hn_table.specs.Outer.{IsNoOuter}
+use Rattle.hn_base.proofs.Names.{take}
+use Rattle.hn_table.proofs.Names.{All, IsNoOuter}
 use Rattle.hn_table.proofs.outer.outer_among.Given as goal
 
 -- none of those so far is one

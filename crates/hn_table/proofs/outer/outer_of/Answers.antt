@@ -1,5 +1,4 @@
-use Rattle.hn_data.specs.View.{plain_view}
-use Rattle.hn_table.specs.Outer.{HasNoOuter}
+use Rattle.hn_table.proofs.Names.{plain_view, HasNoOuter}
 use Rattle.hn_table.proofs.Outers.{each, each_more, has_this, no_outer_candidate, outer_candidate}
 use Rattle.hn_table.proofs.outer.outer_of.Goals as goal
 

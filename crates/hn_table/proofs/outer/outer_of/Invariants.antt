@@ -1,5 +1,5 @@
-use Rattle.std.proofs.Common.{All, take}
-use Rattle.hn_table.specs.Outer.{HasNoOuter}
+use Rattle.hn_base.proofs.Names.{take}
+use Rattle.hn_table.proofs.Names.{All, HasNoOuter}
 use Rattle.hn_table.proofs.outer.outer_of.Given as goal
 
 -- none of the nodes so far has one

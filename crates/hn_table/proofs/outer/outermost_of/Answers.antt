@@ -1,4 +1,4 @@
-use Rattle.hn_base.specs.Prefix.{IsPrefix}
+use Rattle.hn_base.proofs.Names.{IsPrefix}
 use Rattle.hn_table.proofs.Outers.{shorter}
 use Rattle.hn_table.proofs.outer.outermost_of.Goals as goal
 

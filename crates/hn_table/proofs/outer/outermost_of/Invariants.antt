@@ -1,7 +1,5 @@
-use Rattle.std.proofs.Common.{ℕ}
-use Rattle.hn_base.specs.Prefix.{PlainPrefix, IsPrefix, IsWithin}
-use Rattle.hn_data.specs.View.{plain_view}
-use Rattle.hn_deleg.specs.Live.{IsAnnouncedPrefix}
+use Rattle.hn_base.proofs.Names.{ℕ, PlainPrefix, IsPrefix, IsWithin}
+use Rattle.hn_table.proofs.Names.{plain_view, IsAnnouncedPrefix}
 use Rattle.hn_table.proofs.outer.outermost_of.Given as goal
 
 -- it is a candidate that has the prefix inside

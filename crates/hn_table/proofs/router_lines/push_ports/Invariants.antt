@@ -1,6 +1,5 @@
-use Rattle.std.proofs.Common.{◌≡◌, ◌++◌, take, string_bytes}
-use Rattle.std.specs.List.{flat_map}
-use Rattle.hn_table.specs.Lines.{peers_lines}
+use Rattle.hn_base.proofs.Names.{◌≡◌, ◌++◌, take, string_bytes, flat_map}
+use Rattle.hn_table.proofs.Names.{peers_lines}
 use Rattle.hn_table.proofs.router_lines.push_ports.Given as goal
 
 -- those so far have a line each

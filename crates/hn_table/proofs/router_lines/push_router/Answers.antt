@@ -1,7 +1,4 @@
-use Rattle.std.proofs.Common.{◌≡◌, ◌++◌, append_assoc, string_bytes}
-use Rattle.std.specs.Prelude.{OnOk}
-use Rattle.std.proofs.lemmas.Result.{on_ok_weaker}
-use Rattle.hn_base.specs.Name.{name_text}
+use Rattle.hn_base.proofs.Names.{◌≡◌, ◌++◌, append_assoc, string_bytes, OnOk, on_ok_weaker, name_text}
 use Rattle.hn_table.proofs.Lists.{router_line, router_told}
 use Rattle.hn_table.proofs.router_lines.push_router.Goals as goal
 

@@ -1,5 +1,4 @@
-use Rattle.std.proofs.Common.{string_bytes}
-use Rattle.hn_base.specs.Name.{name_text}
+use Rattle.hn_base.proofs.Names.{string_bytes, name_text}
 use Rattle.hn_table.proofs.Tables.{held_told}
 use Rattle.hn_table.proofs.table.push_held.Goals as goal
 

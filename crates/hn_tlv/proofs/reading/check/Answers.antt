@@ -1,7 +1,5 @@
-use Rattle.std.proofs.Common.{◌≡◌, length, refl}
-use Rattle.std.proofs.lemmas.Result.{err_from_is_err_and}
-use Rattle.hn_tlv.specs.Grammar.{IsTlvList, IsTlvAt, FirstFault}
-use Rattle.hn_tlv.specs.View.{plain}
+use Rattle.hn_base.proofs.Names.{◌≡◌, length, refl, err_from_is_err_and}
+use Rattle.hn_tlv.proofs.Names.{IsTlvList, IsTlvAt, FirstFault, plain}
 use Rattle.hn_tlv.proofs.OneReading.{same_list, no_list, same_first_fault}
 use Rattle.hn_tlv.proofs.TlvAtPlace.{breaks_off, reads_more, reads_all}
 use Rattle.hn_tlv.proofs.reading.check.Goals as goal

@@ -1,4 +1,4 @@
-use Rattle.std.proofs.Common.{◌-◌, length}
+use Rattle.hn_base.proofs.Names.{◌-◌, length}
 use Rattle.hn_tlv.proofs.TlvAtPlace.{IsReadTo}
 use Rattle.hn_tlv.proofs.reading.check.Given as goal
 

@@ -1,7 +1,5 @@
-use Rattle.std.proofs.Common.{◌≡◌, ℕ, ◌-◌, length, drop, arith, subst, replicate, ◌++◌}
-use Rattle.hn_tlv.specs.Grammar.{padding}
-use Rattle.hn_tlv.specs.Padding.{IsPaddingFault}
-use Rattle.hn_tlv.specs.View.{plain}
+use Rattle.hn_base.proofs.Names.{◌≡◌, ℕ, ◌-◌, length, drop, arith, subst, replicate, ◌++◌}
+use Rattle.hn_tlv.proofs.Names.{padding, IsPaddingFault, plain}
 use Rattle.hn_tlv.proofs.TakenApart.{IsSplit, faulty_padding, whole_tlv}
 use Rattle.hn_tlv.proofs.reading.first.Goals as goal
 

@@ -1,7 +1,5 @@
-use Rattle.std.proofs.Common.{◌≡◌, ℕ, List, ◌+◌, ◌-◌, drop, arith, subst, refl}
-use Rattle.std.proofs.lemmas.List.{take_rest}
-use Rattle.hn_tlv.specs.Grammar.{IsTlvAt, IsFault}
-use Rattle.hn_tlv.specs.View.{plain}
+use Rattle.hn_base.proofs.Names.{◌≡◌, ℕ, List, ◌+◌, ◌-◌, drop, arith, subst, refl, take_rest}
+use Rattle.hn_tlv.proofs.Names.{IsTlvAt, IsFault, plain}
 use Rattle.hn_tlv.proofs.OneReading.{no_tlv, same_fault}
 use Rattle.hn_tlv.proofs.TlvAtPlace.{same_at}
 use Rattle.hn_tlv.proofs.reading.next.Goals as goal

@@ -1,6 +1,4 @@
-use Rattle.std.proofs.Common.{◌≡◌, ◌<◌, ◌≤◌, get_or, length, inl, inr, sym, ◌∙◌}
-use Rattle.std.proofs.lemmas.Bool.{ltb-true, ltb-false}
-use Rattle.std.proofs.lemmas.List.{get_or_default}
+use Rattle.hn_base.proofs.Names.{◌≡◌, ◌<◌, ◌≤◌, get_or, length, inl, inr, sym, ◌∙◌, ltb-true, ltb-false, get_or_default}
 use Rattle.hn_tlv.proofs.PadBytes.{ends_here, breaks_here}
 use Rattle.hn_tlv.proofs.reading.padding_fault.Goals as goal
 use Rattle.hn_tlv.proofs.reading.padding_fault.Goals.{in-Some, in-None}

@@ -1,6 +1,5 @@
-use Rattle.std.proofs.Common.{◌≡◌, ◌<◌, ◌^◌, ℕ, List, drop, arith, sym, ap, ◌∙◌, ◌++◌}
-use Rattle.std.proofs.lemmas.List.{take-append-drop}
-use Rattle.hn_tlv.specs.Grammar.{header}
+use Rattle.hn_base.proofs.Names.{◌≡◌, ◌<◌, ◌^◌, ℕ, List, drop, arith, sym, ap, ◌∙◌, ◌++◌, take-append-drop}
+use Rattle.hn_tlv.proofs.Names.{header}
 use Rattle.hn_tlv.proofs.TakenApart.{is_split}
 use Rattle.hn_tlv.proofs.reading.split_value.Goals as goal
 

@@ -1,7 +1,5 @@
-use Rattle.std.proofs.Common.{arith}
-use Rattle.std.proofs.lemmas.Grind.{common_steps}
-use Rattle.std.proofs.lemmas.List.{get_or_default}
-use Rattle.hn_tlv.specs.Grammar.{PlainTlv, IsTlv}
+use Rattle.hn_base.proofs.Names.{arith, common_steps, get_or_default}
+use Rattle.hn_tlv.proofs.Names.{PlainTlv, IsTlv}
 use Rattle.hn_tlv.proofs.TlvAtPlace.{alone}
 use Rattle.hn_tlv.proofs.writing.write_to.Goals as goal
 

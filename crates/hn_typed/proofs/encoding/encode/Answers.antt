@@ -1,6 +1,5 @@
-use Rattle.std.proofs.Common.{◌∙◌}
-use Rattle.hn_typed.specs.Written.{tlv_of}
-use Rattle.hn_typed.specs.View.{plain_item}
+use Rattle.hn_base.proofs.Names.{◌∙◌}
+use Rattle.hn_typed.proofs.Names.{tlv_of, plain_item}
 use Rattle.hn_typed.proofs.encoding.encode.Goals as goal
 
 pub returns : goal.returns

@@ -1,5 +1,5 @@
-use Rattle.std.proofs.Common.{drop, ap, sym, arith, inl, refl}
-use Rattle.hn_typed.specs.Shape.{Halves}
+use Rattle.hn_base.proofs.Names.{drop, ap, sym, arith, inl, refl}
+use Rattle.hn_typed.proofs.Names.{Halves}
 use Rattle.hn_typed.proofs.FirstCauses.{in_field, past}
 use Rattle.hn_typed.proofs.FieldsRead.{none_cut}
 use Rattle.hn_typed.proofs.fields.halves.Goals as goal

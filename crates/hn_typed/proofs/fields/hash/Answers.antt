@@ -1,6 +1,5 @@
-use Rattle.std.proofs.Common.{◌≡◌, ◌≤◌, ◌<◌, [], length, ap, ◌∙◌, arith, inl, refl}
-use Rattle.std.proofs.lemmas.List.{length-take-le, get_or-take, get_or_default}
-use Rattle.hn_typed.specs.Shape.{Hash}
+use Rattle.hn_base.proofs.Names.{◌≡◌, ◌≤◌, ◌<◌, [], length, ap, ◌∙◌, arith, inl, refl, length-take-le, get_or-take, get_or_default}
+use Rattle.hn_typed.proofs.Names.{Hash}
 use Rattle.hn_typed.proofs.FirstCauses.{in_field, past}
 use Rattle.hn_typed.proofs.FieldsRead.{none_cut}
 use Rattle.hn_typed.proofs.fields.hash.Goals as goal

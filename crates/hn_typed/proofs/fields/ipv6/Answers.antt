@@ -1,8 +1,5 @@
-use Rattle.std.proofs.Common.{◌≡◌, ◌≤◌, ◌++◌, List, ℕ, length, take, drop, ap, sym, ◌∙◌, arith, inl, refl}
-use Rattle.std.specs.Int.{w128, from_be_bytes, to_be_bytes}
-use Rattle.std.proofs.lemmas.List.{take-append-drop, length-take-le}
-use Rattle.hn_base.proofs.BigEndian.{Bytes-from_reads, Bytes-take, whole_is}
-use Rattle.hn_typed.specs.Shape.{Ipv6}
+use Rattle.hn_base.proofs.Names.{◌≡◌, ◌≤◌, ◌++◌, List, ℕ, length, take, drop, ap, sym, ◌∙◌, arith, inl, refl, w128, from_be_bytes, to_be_bytes, take-append-drop, length-take-le}
+use Rattle.hn_typed.proofs.Names.{Bytes-from_reads, Bytes-take, whole_is, Ipv6}
 use Rattle.hn_typed.proofs.FirstCauses.{in_field, past}
 use Rattle.hn_typed.proofs.FieldsRead.{none_cut}
 use Rattle.hn_typed.proofs.fields.ipv6.Goals as goal

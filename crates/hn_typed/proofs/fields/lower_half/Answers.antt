@@ -1,6 +1,5 @@
-use Rattle.std.proofs.Common.{◌≡◌, ◌∷◌, ℕ, ◌/◌, ◌%◌, bit_and, drop, length, ap, sym, ◌∙◌, arith, inl, refl}
-use Rattle.hn_typed.specs.Fields.{two_in_byte}
-use Rattle.hn_typed.specs.Shape.{LowerHalf}
+use Rattle.hn_base.proofs.Names.{◌≡◌, ◌∷◌, ℕ, ◌/◌, ◌%◌, bit_and, drop, length, ap, sym, ◌∙◌, arith, inl, refl}
+use Rattle.hn_typed.proofs.Names.{two_in_byte, LowerHalf}
 use Rattle.hn_typed.proofs.FirstCauses.{in_field, past}
 use Rattle.hn_typed.proofs.FieldsRead.{none_cut}
 use Rattle.hn_typed.proofs.fields.lower_half.Goals as goal

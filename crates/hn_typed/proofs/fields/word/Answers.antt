@@ -1,5 +1,5 @@
-use Rattle.std.proofs.Common.{arith, inl, refl}
-use Rattle.hn_typed.specs.Shape.{Word}
+use Rattle.hn_base.proofs.Names.{arith, inl, refl}
+use Rattle.hn_typed.proofs.Names.{Word}
 use Rattle.hn_typed.proofs.FirstCauses.{in_field, past}
 use Rattle.hn_typed.proofs.FieldsRead.{none_cut}
 use Rattle.hn_typed.proofs.fields.word.Goals as goal

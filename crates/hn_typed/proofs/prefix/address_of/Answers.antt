@@ -1,5 +1,4 @@
-use Rattle.std.proofs.Common.{◌-◌, length, ap, sym, ◌∙◌}
-use Rattle.std.specs.Int.{w128, from_be_bytes}
+use Rattle.hn_base.proofs.Names.{◌-◌, length, ap, sym, ◌∙◌, w128, from_be_bytes}
 use Rattle.hn_base.proofs.BigEndian.{from_be_bytes-padded}
 use Rattle.hn_typed.proofs.prefix.address_of.Goals as goal
 

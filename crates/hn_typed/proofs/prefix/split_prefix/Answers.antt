@@ -1,9 +1,6 @@
-use Rattle.std.proofs.Common.{◌≡◌, ◌∷◌, ◌++◌, ℕ, length, take, drop, subst, refl, ap, sym, ◌∙◌, arith, rules}
-use Rattle.std.proofs.lemmas.Grind.{common_steps}
-use Rattle.hn_base.specs.Prefix.{PlainPrefix, IsPrefix}
-use Rattle.hn_typed.specs.Fields.{prefix_field, bytes_for}
-use Rattle.hn_base.proofs.BigEndian.{Bytes, Bytes-from_reads, Bytes-take}
-use Rattle.hn_typed.specs.Shape.{Prefixed, any_prefix}
+use Rattle.hn_base.proofs.Names.{◌≡◌, ◌∷◌, ◌++◌, ℕ, length, take, drop, subst, refl, ap, sym, ◌∙◌, arith, rules, common_steps, PlainPrefix, IsPrefix}
+use Rattle.hn_typed.proofs.Names.{prefix_field, bytes_for, Bytes, Bytes-from_reads, Bytes-take, Prefixed}
+use Rattle.hn_typed.specs.Shape.{any_prefix}
 use Rattle.hn_typed.proofs.FirstCauses.{in_field, past_prefix}
 use Rattle.hn_typed.proofs.Prefixes.{prefix_read}
 use Rattle.hn_typed.proofs.prefix.split_prefix.Goals as goal

@@ -1,5 +1,5 @@
-use Rattle.std.proofs.Common.{◌≡◌, List, ℕ, ◌∷◌, [], ◌++◌, refl, ap, ◌∙◌}
-use Rattle.hn_typed.specs.Fields.{word, two_in_byte, prefix_field}
+use Rattle.hn_base.proofs.Names.{◌≡◌, List, ℕ, ◌∷◌, [], ◌++◌, refl, ap, ◌∙◌}
+use Rattle.hn_typed.proofs.Names.{word, two_in_byte, prefix_field}
 use Rattle.hn_typed.proofs.FirstCauses.{subs_found}
 use Rattle.hn_typed.proofs.readers.assigned.Goals as goal
 

@@ -1,4 +1,4 @@
-use Rattle.std.proofs.Common.{subst, sym}
+use Rattle.hn_base.proofs.Names.{subst, sym}
 use Rattle.hn_typed.specs.Reading.{ReadsValue}
 use Rattle.hn_typed.proofs.readers.read_value.Goals as goal
 

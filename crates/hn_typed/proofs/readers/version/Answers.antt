@@ -1,6 +1,5 @@
-use Rattle.std.proofs.Common.{◌≡◌, List, ℕ, ◌∷◌, [], refl, sym, ap, subst, ◌∙◌}
-use Rattle.std.specs.Str.{IsUtf8}
-use Rattle.hn_typed.specs.Fields.{two_in_byte}
+use Rattle.hn_base.proofs.Names.{◌≡◌, List, ℕ, ◌∷◌, [], refl, sym, ap, subst, ◌∙◌, IsUtf8}
+use Rattle.hn_typed.proofs.Names.{two_in_byte}
 use Rattle.hn_typed.proofs.FirstCauses.{no_text}
 use Rattle.hn_typed.proofs.readers.version.Goals as goal
 

@@ -1,6 +1,6 @@
-use Rattle.std.proofs.Common.{refl}
+use Rattle.hn_base.proofs.Names.{refl}
+use Rattle.hn_typed.proofs.Names.{plain_item}
 use Rattle.hn_tlv.specs.View.{plain}
-use Rattle.hn_typed.specs.View.{plain_item}
 use Rattle.hn_typed.proofs.OneItem.{same_item}
 use Rattle.hn_typed.proofs.OneFault.{no_fault, same_fault}
 use Rattle.hn_typed.proofs.reading.read.Goals as goal

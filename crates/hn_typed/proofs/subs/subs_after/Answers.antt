@@ -1,6 +1,5 @@
-use Rattle.std.proofs.Common.{◌≡◌, ◌++◌, replicate, take, drop, inr, ap, sym, ◌∙◌, arith}
-use Rattle.std.proofs.lemmas.Grind.{common_steps}
-use Rattle.hn_tlv.specs.Grammar.{padding, HasTlvs}
+use Rattle.hn_base.proofs.Names.{◌≡◌, ◌++◌, replicate, take, drop, inr, ap, sym, ◌∙◌, arith, common_steps}
+use Rattle.hn_typed.proofs.Names.{padding, HasTlvs}
 use Rattle.hn_base.proofs.Zeros.{begins_with_zeros}
 use Rattle.hn_typed.proofs.FirstCauses.{no_subs}
 use Rattle.hn_typed.proofs.subs.subs_after.Goals as goal

@@ -1,4 +1,4 @@
-use Rattle.std.proofs.Common.{arith}
+use Rattle.hn_base.proofs.Names.{arith}
 use Rattle.hn_typed.proofs.writing.beginning_of.Goals as goal
 
 pub returns-in-NodeState-clause-in_range : goal.returns-in-NodeState-clause-in_range

@@ -1,5 +1,4 @@
-use Rattle.std.proofs.Common.{arith}
-use Rattle.std.proofs.lemmas.List.{get_or_default}
+use Rattle.hn_base.proofs.Names.{arith, get_or_default}
 use Rattle.hn_typed.proofs.writing.put.Goals as goal
 
 pub returns-clause-bytes : goal.returns-clause-bytes

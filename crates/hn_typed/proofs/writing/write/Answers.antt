@@ -1,8 +1,6 @@
-use Rattle.std.proofs.Common.{◌^◌, ◌<◌, All, subst, ◌∙◌, arith}
-use Rattle.hn_base.specs.Byte.{IsByte}
-use Rattle.hn_typed.specs.Item.{PlainItem}
-use Rattle.hn_typed.specs.Written.{IsWritable, kind_of, fixed_of, tail_of}
-use Rattle.hn_typed.specs.View.{plain_item}
+use Rattle.hn_base.proofs.Names.{◌^◌, ◌<◌, subst, ◌∙◌, arith, IsByte}
+use Rattle.hn_typed.proofs.Names.{All, PlainItem, IsWritable, fixed_of, tail_of, plain_item}
+use Rattle.hn_typed.specs.Written.{kind_of}
 use Rattle.hn_typed.proofs.WrittenIsRead.{written_is_item, value_bytes}
 use Rattle.hn_typed.proofs.writing.write.Goals as goal
 

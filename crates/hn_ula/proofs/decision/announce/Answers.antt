@@ -1,5 +1,5 @@
-use Rattle.std.proofs.Common.{[], ◌∷◌, refl, ap}
-use Rattle.hn_ula.specs.declared.decision.Ula.TheVariants.{Announce}
+use Rattle.hn_base.proofs.Names.{[], ◌∷◌, refl, ap}
+use Rattle.hn_ula.proofs.Names.{Announce}
 use Rattle.hn_ula.proofs.decision.announce.Goals as goal
 
 pub returns : goal.returns

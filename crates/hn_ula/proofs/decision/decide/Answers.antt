@@ -1,4 +1,4 @@
-use Rattle.std.proofs.Common.{[]}
+use Rattle.hn_base.proofs.Names.{[]}
 use Rattle.hn_ula.proofs.OneDecision.{no_words, by_first, by_second, by_third, keeps_with, keeps_without}
 use Rattle.hn_ula.proofs.decision.decide.Goals as goal
 use Rattle.hn_ula.proofs.decision.decide.Goals.{in_default-via-in-Some-2+else-found-2, in_default-via-in-None+else-found-3}

@@ -1,8 +1,5 @@
-use Rattle.std.proofs.Common.{Bool, ◌↔◌, IsTrue, sym, subst}
-use Rattle.hn_base.specs.Prefix.{PlainPrefix}
-use Rattle.hn_rules.specs.Seen.{seen_by}
-use Rattle.hn_ula.specs.Ula.{IsOwnOf}
-use Rattle.hn_ula.specs.Said.{AreGenerated}
+use Rattle.hn_base.proofs.Names.{Bool, ◌↔◌, IsTrue, sym, subst, PlainPrefix}
+use Rattle.hn_ula.proofs.Names.{seen_by, IsOwnOf, AreGenerated}
 use Rattle.hn_ula.proofs.FoundInLists.{has_own}
 use Rattle.hn_ula.proofs.decision.has_generated.Goals as goal
 

@@ -1,6 +1,5 @@
-use Rattle.std.proofs.Common.{sym, subst}
-use Rattle.hn_rules.specs.Seen.{seen_by}
-use Rattle.hn_ula.specs.Said.{AreGenerated}
+use Rattle.hn_base.proofs.Names.{sym, subst}
+use Rattle.hn_ula.proofs.Names.{seen_by, AreGenerated}
 use Rattle.hn_ula.proofs.found.find.Goals as goal
 
 pub own-own-requires : goal.own-own-requires

@@ -1,7 +1,5 @@
-use Rattle.std.proofs.Common.{List, IsTrue, ◌↔◌, subst}
-use Rattle.hn_deleg.specs.declared.delegated.Delegated.{Delegated}
-use Rattle.hn_rules.specs.Seen.{seen_by}
-use Rattle.hn_ula.specs.Found.{HasForeign}
+use Rattle.hn_base.proofs.Names.{List, IsTrue, ◌↔◌, subst}
+use Rattle.hn_ula.proofs.Names.{Delegated, seen_by, HasForeign}
 use Rattle.hn_ula.proofs.FoundInLists.{foreign_of}
 use Rattle.hn_ula.proofs.found.foreign.Goals as goal
 

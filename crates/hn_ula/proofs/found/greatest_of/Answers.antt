@@ -1,11 +1,6 @@
-use Rattle.std.proofs.Common.{◌≡◌, refl, sym, ap, length, Some, slice_get, subst, List}
-use Rattle.std.proofs.lemmas.Bool.{eqb-true, eqb-false}
-use Rattle.std.proofs.lemmas.List.{take_all}
-use Rattle.std.proofs.lemmas.Option.{slice_get_read}
-use Rattle.hn_base.specs.declared.ids.NodeId.{NodeId}
+use Rattle.hn_base.proofs.Names.{◌≡◌, refl, sym, ap, length, Some, slice_get, subst, List, eqb-true, eqb-false, take_all, slice_get_read}
+use Rattle.hn_ula.proofs.Names.{NodeId, IsGreatestFound, Generated}
 use Rattle.hn_base.proofs.Keys.{same_node}
-use Rattle.hn_ula.specs.Found.{IsGreatestFound}
-use Rattle.hn_ula.specs.declared.generated.Generated.{Generated}
 use Rattle.hn_ula.proofs.GreatestOfNode.{found_none, passed_next, taken_next}
 use Rattle.hn_ula.proofs.found.greatest_of.Goals as goal
 use Rattle.hn_ula.proofs.found.greatest_of.Goals.{then-eq, else-eq}

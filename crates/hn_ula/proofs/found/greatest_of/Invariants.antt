@@ -1,5 +1,5 @@
-use Rattle.std.proofs.Common.{take}
-use Rattle.hn_ula.specs.Found.{IsGreatestFound}
+use Rattle.hn_base.proofs.Names.{take}
+use Rattle.hn_ula.proofs.Names.{IsGreatestFound}
 use Rattle.hn_ula.proofs.found.greatest_of.Given as goal
 
 abbrev pub invariant-loop-one : goal.invariant-loop-one

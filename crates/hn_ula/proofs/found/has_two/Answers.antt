@@ -1,8 +1,6 @@
-use Rattle.std.proofs.Common.{◌↔◌, IsTrue, refl, subst}
+use Rattle.hn_base.proofs.Names.{◌↔◌, IsTrue, refl, subst}
+use Rattle.hn_ula.proofs.Names.{NodeId, HasTwo, HasOtherOf}
 use Rattle.std.specs.Prelude.{false}
-use Rattle.hn_base.specs.declared.ids.NodeId.{NodeId}
-use Rattle.hn_ula.specs.Ula.{HasTwo}
-use Rattle.hn_ula.specs.Found.{HasOtherOf}
 use Rattle.hn_ula.proofs.FoundInLists.{by_other, by_none, fails_of}
 use Rattle.hn_ula.proofs.found.has_two.Goals as goal
 

@@ -1,8 +1,5 @@
-use Rattle.std.proofs.Common.{◌↔◌, IsTrue, List, refl, subst}
-use Rattle.std.proofs.lemmas.Bool.{false≢true}
-use Rattle.hn_base.specs.declared.ids.NodeId.{NodeId}
-use Rattle.hn_ula.specs.Ula.{IsToAnnounce}
-use Rattle.hn_ula.specs.Found.{HasGreater}
+use Rattle.hn_base.proofs.Names.{◌↔◌, IsTrue, List, refl, subst, false≢true}
+use Rattle.hn_ula.proofs.Names.{NodeId, IsToAnnounce, HasGreater}
 use Rattle.hn_ula.proofs.FoundInLists.{by_greater, by_neither, fails_of}
 use Rattle.hn_ula.proofs.found.is_to_announce.Goals as goal
 

@@ -1,7 +1,5 @@
-use Rattle.std.proofs.Common.{◌↔◌, IsTrue, sym, subst}
-use Rattle.hn_base.specs.declared.ids.NodeId.{NodeId}
-use Rattle.hn_ula.specs.Ula.{MustGo}
-use Rattle.hn_ula.specs.Found.{HasPrefixAbove}
+use Rattle.hn_base.proofs.Names.{◌↔◌, IsTrue, sym, subst}
+use Rattle.hn_ula.proofs.Names.{NodeId, MustGo, HasPrefixAbove}
 use Rattle.hn_ula.proofs.FoundInLists.{by_above, no_line, fails_of}
 use Rattle.hn_ula.proofs.found.must_go.Goals as goal
 

@@ -1,6 +1,5 @@
-use Rattle.std.proofs.Common.{subst}
-use Rattle.hn_base.specs.declared.ids.NodeId.{NodeId}
-use Rattle.hn_ula.specs.Found.{IsGreatestFound}
+use Rattle.hn_base.proofs.Names.{subst}
+use Rattle.hn_ula.proofs.Names.{NodeId, IsGreatestFound}
 use Rattle.hn_ula.proofs.FoundInLists.{own_of}
 use Rattle.hn_ula.proofs.found.own.Goals as goal
 

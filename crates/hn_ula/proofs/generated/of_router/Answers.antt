@@ -1,8 +1,5 @@
-use Rattle.std.proofs.lemmas.Result.{IfOk-weaker}
-use Rattle.hn_data.specs.Delegations.{HasDelegation}
-use Rattle.hn_addr.specs.OfNodes.{AreOfNodes}
-use Rattle.hn_rules.specs.Seen.{seen_by}
-use Rattle.hn_ula.specs.Said.{IsOfDelegation, AreGenerated}
+use Rattle.hn_base.proofs.Names.{IfOk-weaker}
+use Rattle.hn_ula.proofs.Names.{HasDelegation, AreOfNodes, seen_by, IsOfDelegation, AreGenerated}
 use Rattle.hn_ula.proofs.GeneratedOfNodes.{are_generated}
 use Rattle.hn_ula.proofs.generated.of_router.Goals as goal
 

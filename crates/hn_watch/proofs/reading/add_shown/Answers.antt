@@ -1,9 +1,5 @@
-use Rattle.std.proofs.Common.{[], ◌∷◌, ◌++◌, List, Option, sym, subst}
-use Rattle.std.specs.Prelude.{option_to_list}
-use Rattle.std.proofs.lemmas.List.{append-nil}
-use Rattle.hn_tlv.specs.View.{plain}
-use Rattle.hn_watch.specs.declared.shown.Shown.{Shown}
-use Rattle.hn_watch.specs.Shown.{Shows, AreShownBy}
+use Rattle.hn_base.proofs.Names.{[], ◌∷◌, ◌++◌, List, Option, sym, subst, append-nil}
+use Rattle.hn_watch.proofs.Names.{option_to_list, plain, Shown, Shows, AreShownBy}
 use Rattle.hn_watch.proofs.ShownLemmas.{shown_push}
 use Rattle.hn_watch.proofs.reading.add_shown.Goals as goal
 

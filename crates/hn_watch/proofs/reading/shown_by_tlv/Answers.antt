@@ -1,4 +1,4 @@
-use Rattle.std.proofs.Common.{inr, refl}
+use Rattle.hn_base.proofs.Names.{inr, refl}
 use Rattle.hn_watch.proofs.reading.shown_by_tlv.Goals as goal
 
 pub returns-in-Err : goal.returns-in-Err

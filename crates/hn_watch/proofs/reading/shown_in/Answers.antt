@@ -1,5 +1,5 @@
-use Rattle.std.proofs.Common.{[], ◌∷◌, ◌++◌}
-use Rattle.hn_tlv.specs.View.{plain}
+use Rattle.hn_base.proofs.Names.{[], ◌∷◌, ◌++◌}
+use Rattle.hn_watch.proofs.Names.{plain}
 use Rattle.hn_watch.proofs.reading.shown_in.Goals as goal
 
 pub loop-tlv-preserved : goal.loop-tlv-preserved

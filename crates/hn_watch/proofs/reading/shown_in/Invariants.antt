@@ -1,4 +1,4 @@
-use Rattle.std.proofs.Common.{◌-◌, length}
+use Rattle.hn_base.proofs.Names.{◌-◌, length}
 use Rattle.hn_watch.proofs.ShownLemmas.{IsShownTo}
 use Rattle.hn_watch.proofs.reading.shown_in.Given as goal
 

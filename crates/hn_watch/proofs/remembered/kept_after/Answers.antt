@@ -1,5 +1,5 @@
-use Rattle.std.proofs.Common.{◌∙◌, refl, sym, ap}
-use Rattle.hn_watch.specs.Seen.{keeping}
+use Rattle.hn_base.proofs.Names.{◌∙◌, refl, sym, ap}
+use Rattle.hn_watch.proofs.Names.{keeping}
 use Rattle.hn_watch.proofs.Orders.{older_test}
 use Rattle.hn_watch.proofs.KeptLemmas.{keeping_first, keeping_newer, keeping_not_newer}
 use Rattle.hn_watch.proofs.remembered.kept_after.Goals as goal

@@ -1,4 +1,4 @@
-use Rattle.std.proofs.Common.{◌≡◌, ◌++◌, take, string_bytes}
+use Rattle.hn_base.proofs.Names.{◌≡◌, ◌++◌, take, string_bytes}
 use Rattle.hn_why.specs.Parts.{filled_in}
 use Rattle.hn_why.proofs.part.say.Given as goal
 

@@ -1,5 +1,4 @@
-use Rattle.std.proofs.Common.{◌∙◌, ℕ, List, ◌++◌, ap, string_bytes}
-use Rattle.std.proofs.lemmas.Result.{on_ok_weaker}
+use Rattle.hn_base.proofs.Names.{◌∙◌, ℕ, List, ◌++◌, ap, string_bytes, on_ok_weaker}
 use Rattle.hn_why.proofs.Templates.{unasked_said, makes_said, takes_said, drops_said, changes_said}
 use Rattle.hn_why.proofs.unquiet.push_said.Goals as goal
 

@@ -1,5 +1,4 @@
-use Rattle.std.proofs.Common.{◌∙◌, ℕ, List, ◌++◌, ap, string_bytes}
-use Rattle.std.proofs.lemmas.Result.{on_ok_weaker}
+use Rattle.hn_base.proofs.Names.{◌∙◌, ℕ, List, ◌++◌, ap, string_bytes, on_ok_weaker}
 use Rattle.hn_why.proofs.Templates.{unknown_said, shared_said, other_reach_said, not_held_said, old_data_said, other_prefixes_said, stranger_said, not_linked_said, not_on_one_link_said}
 use Rattle.hn_why.proofs.unsettled.push_said.Goals as goal
 

@@ -1,4 +1,4 @@
-use Rattle.std.proofs.Common.{◌∙◌, ℕ, List, ◌∷◌, ◌++◌, ap, append_assoc}
+use Rattle.hn_base.proofs.Names.{◌∙◌, ℕ, List, ◌∷◌, ◌++◌, ap, append_assoc}
 use Rattle.hn_why.specs.Unquiet.{unquiet_words, unquiet_sentence}
 use Rattle.hn_why.proofs.why.unquiet_text.Goals as goal
 

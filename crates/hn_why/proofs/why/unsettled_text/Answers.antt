@@ -1,5 +1,4 @@
-use Rattle.std.proofs.Common.{◌∙◌, ℕ, List, ◌∷◌, ◌++◌, ap, append_assoc}
-use Rattle.hn_base.specs.Name.{name_text}
+use Rattle.hn_base.proofs.Names.{◌∙◌, ℕ, List, ◌∷◌, ◌++◌, ap, append_assoc, name_text}
 use Rattle.hn_why.specs.Unsettled.{unsettled_words, unsettled_sentence}
 use Rattle.hn_why.proofs.why.unsettled_text.Goals as goal
 

@@ -1,6 +1,4 @@
-use Rattle.std.proofs.Common.{string_bytes}
-use Rattle.std.proofs.lemmas.Result.{IfOk-weaker}
-use Rattle.hn_base.specs.Name.{name_text}
+use Rattle.hn_base.proofs.Names.{string_bytes, IfOk-weaker, name_text}
 use Rattle.hn_why.proofs.Whys.{unsettled_so, unquiet_so, quiet_so}
 use Rattle.hn_why.proofs.why.why_text.Goals as goal
 

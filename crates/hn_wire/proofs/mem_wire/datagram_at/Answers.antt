@@ -1,6 +1,5 @@
-use Rattle.std.proofs.Common.{rules}
+use Rattle.hn_base.proofs.Names.{rules, YieldsList-from_slice}
 use borrow.Author.Tests.{tests}
-use Rattle.std.proofs.lemmas.Iterator.{YieldsList-from_slice}
 use Rattle.std.proofs.lemmas.Iterator.Consumers.{YieldsList-from_filter, nth_from_yields_List}
 use Rattle.hn_wire.proofs.mem_wire.datagram_at.Goals as goal
 

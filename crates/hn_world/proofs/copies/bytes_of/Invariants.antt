@@ -1,5 +1,5 @@
-use Rattle.std.proofs.Common.{◌≡◌, ◌^◌, min, take}
-use Rattle.hn_world.specs.Waiting.{bytes_of_copies}
+use Rattle.hn_base.proofs.Names.{◌≡◌, ◌^◌, min, take}
+use Rattle.hn_world.proofs.Names.{bytes_of_copies}
 use Rattle.hn_world.proofs.copies.bytes_of.Given as goal
 
 abbrev pub invariant-loop-copy : goal.invariant-loop-copy

@@ -1,6 +1,5 @@
-use Rattle.std.proofs.Common.{◌≤◌, ◌-◌, length}
-use Rattle.std.specs.Prelude.{unwrap_or}
-use Rattle.hn_world.specs.Waiting.{first_waiting}
+use Rattle.hn_base.proofs.Names.{◌≤◌, ◌-◌, length, unwrap_or}
+use Rattle.hn_world.proofs.Names.{first_waiting}
 use Rattle.hn_world.proofs.copies.next_waiting.Given as goal
 
 abbrev pub invariant-loop-first : goal.invariant-loop-first

@@ -1,4 +1,4 @@
-use Rattle.hn_world.specs.Replay.{AreAttached}
+use Rattle.hn_world.proofs.Names.{AreAttached}
 use Rattle.hn_world.proofs.SoundRouters.{always}
 use Rattle.hn_world.proofs.AttachedEndpoints.{attached_replay}
 use Rattle.hn_world.proofs.law.always_attached.Goals as goal

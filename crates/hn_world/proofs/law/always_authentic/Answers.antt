@@ -1,4 +1,4 @@
-use Rattle.hn_world.specs.Authentic.{AuthenticUnlessInjected}
+use Rattle.hn_world.proofs.Names.{AuthenticUnlessInjected}
 use Rattle.hn_world.proofs.SoundRouters.{StayLaws, always}
 use Rattle.hn_world.proofs.Authentics.{AuthenticLaws, authentic_replay}
 use Rattle.hn_world.proofs.law.always_authentic.Goals as goal

@@ -1,4 +1,4 @@
-use Rattle.hn_world.specs.Replay.{IsSoundWorld}
+use Rattle.hn_world.proofs.Names.{IsSoundWorld}
 use Rattle.hn_world.proofs.SoundRouters.{StayLaws, sound_replay, always}
 use Rattle.hn_world.proofs.law.always_sound.Goals as goal
 

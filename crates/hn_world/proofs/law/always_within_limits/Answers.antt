@@ -1,4 +1,4 @@
-use Rattle.hn_world.specs.Within.{AreWithinLimits}
+use Rattle.hn_world.proofs.Names.{AreWithinLimits}
 use Rattle.hn_world.proofs.SoundRouters.{StayLaws, always}
 use Rattle.hn_world.proofs.WithinLimits.{LimitLaws, within_replay}
 use Rattle.hn_world.proofs.law.always_within_limits.Goals as goal

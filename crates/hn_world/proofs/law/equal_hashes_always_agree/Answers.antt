@@ -1,4 +1,4 @@
-use Rattle.hn_world.specs.Leaves.{EqualHashesAgree}
+use Rattle.hn_world.proofs.Names.{EqualHashesAgree}
 use Rattle.hn_world.proofs.SoundRouters.{StayLaws, always}
 use Rattle.hn_world.proofs.EqualHashes.{agree_replay}
 use Rattle.hn_world.proofs.law.equal_hashes_always_agree.Goals as goal

@@ -1,4 +1,4 @@
-use Rattle.hn_world.specs.Existing.{StepExists}
+use Rattle.hn_world.proofs.Names.{StepExists}
 use Rattle.hn_world.proofs.CopiesOfBytes.{replayed_step}
 use Rattle.hn_world.proofs.SomeSteps.{some_step}
 use Rattle.hn_world.proofs.law.step_exists.Goals as goal

@@ -1,9 +1,5 @@
-use Rattle.std.proofs.Common.{◌≡◌, ◌∙◌, ◌++◌, List, Some, ap, filter, map, subst, sym}
-use Rattle.std.specs.Prelude.{OnOk}
-use Rattle.std.proofs.lemmas.List.{append-nil}
-use Rattle.hn_world.specs.declared.copies.Target.{Target}
-use Rattle.hn_world.specs.declared.member.Member.{Member}
-use Rattle.hn_world.specs.Mail.{copy_for, gets, on_link_at}
+use Rattle.hn_base.proofs.Names.{◌≡◌, ◌∙◌, ◌++◌, List, Some, ap, filter, map, subst, sym, OnOk, append-nil}
+use Rattle.hn_world.proofs.Names.{Target, Member, copy_for, gets, on_link_at}
 use Rattle.hn_world.proofs.EndpointOfAddress.{has_none, has_one}
 use Rattle.hn_world.proofs.mail.add_for_address.Goals as goal
 

@@ -1,9 +1,5 @@
-use Rattle.std.proofs.Common.{◌∙◌, ◌++◌, List, None, ap, sym, filter, map, take, append_assoc}
-use Rattle.std.proofs.lemmas.List.{map-append}
-use Rattle.hn_world.specs.declared.copies.MailCopy.{MailCopy}
-use Rattle.hn_world.specs.declared.copies.Target.{Target}
-use Rattle.hn_world.specs.declared.member.Member.{Member}
-use Rattle.hn_world.specs.Mail.{copy_for, gets, on_link, on_link_at}
+use Rattle.hn_base.proofs.Names.{◌∙◌, ◌++◌, List, None, ap, sym, filter, map, take, append_assoc, map-append}
+use Rattle.hn_world.proofs.Names.{MailCopy, Target, Member, copy_for, gets, on_link, on_link_at}
 use Rattle.hn_world.proofs.EndpointsOnLink.{getting-more}
 use Rattle.hn_world.proofs.mail.add_for_others.Goals as goal
 

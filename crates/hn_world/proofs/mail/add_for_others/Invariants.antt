@@ -1,6 +1,5 @@
-use Rattle.std.proofs.Common.{◌≡◌, ◌++◌, true, None, filter, map, take}
-use Rattle.std.specs.Prelude.{All}
-use Rattle.hn_world.specs.Mail.{copy_for, gets, on_link}
+use Rattle.hn_base.proofs.Names.{◌≡◌, ◌++◌, true, None, filter, map, take, All}
+use Rattle.hn_world.proofs.Names.{copy_for, gets, on_link}
 use Rattle.hn_world.proofs.mail.add_for_others.Given as goal
 
 abbrev pub invariant-loop-place : goal.invariant-loop-place

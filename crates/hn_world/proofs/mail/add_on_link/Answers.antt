@@ -1,11 +1,5 @@
-use Rattle.std.proofs.Common.{◌≡◌, ◌∙◌, ◌++◌, List, Vec, Global, true, false, ap, filter, map, sym, subst}
-use Rattle.std.specs.Prelude.{All}
-use Rattle.std.proofs.lemmas.List.{append-nil}
-use Rattle.hn_base.specs.declared.ids.EpId.{EpId}
-use Rattle.hn_world.specs.declared.copies.MailCopy.{MailCopy}
-use Rattle.hn_world.specs.declared.copies.Target.{Target}
-use Rattle.hn_world.specs.Mail.{copy_for, gets}
-use Rattle.hn_world.specs.Names.{is_on}
+use Rattle.hn_base.proofs.Names.{◌≡◌, ◌∙◌, ◌++◌, List, Vec, Global, true, false, ap, filter, map, sym, subst, All, append-nil}
+use Rattle.hn_world.proofs.Names.{EpId, MailCopy, Target, copy_for, gets, is_on}
 use Rattle.hn_world.proofs.EndpointsOnLink.{with_port, without_port, none_on_link}
 use Rattle.hn_world.proofs.mail.add_on_link.Goals.{then-is_on+in_ok-add_copy, else-is_on}
 use Rattle.hn_world.proofs.mail.add_on_link.Goals as goal

@@ -1,7 +1,5 @@
-use Rattle.std.proofs.Common.{◌≡◌, ◌++◌, true, filter, map, take}
-use Rattle.std.specs.Prelude.{All}
-use Rattle.hn_world.specs.Mail.{copy_for, gets}
-use Rattle.hn_world.specs.Names.{is_on}
+use Rattle.hn_base.proofs.Names.{◌≡◌, ◌++◌, true, filter, map, take, All}
+use Rattle.hn_world.proofs.Names.{copy_for, gets, is_on}
 use Rattle.hn_world.proofs.mail.add_on_link.Given as goal
 
 abbrev pub invariant-loop-port : goal.invariant-loop-port

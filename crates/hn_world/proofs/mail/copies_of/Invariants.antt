@@ -1,6 +1,5 @@
-use Rattle.std.proofs.Common.{◌≡◌, true, take}
-use Rattle.std.specs.Prelude.{All}
-use Rattle.hn_world.specs.Mail.{copies_of}
+use Rattle.hn_base.proofs.Names.{◌≡◌, true, take, All}
+use Rattle.hn_world.proofs.Names.{copies_of}
 use Rattle.hn_world.proofs.mail.copies_of.Given as goal
 
 abbrev pub invariant-loop-send : goal.invariant-loop-send

@@ -1,7 +1,4 @@
-use Rattle.std.proofs.Common.{rules, ◌≡◌, ◌≢◌, ◌<◌, ◌≤◌, ◌-◌, ◌∙◌, ℕ, length, get_or, take, sym, ap, subst, arith}
-use Rattle.std.proofs.lemmas.Grind.{common_steps}
-use Rattle.std.proofs.lemmas.Slice.Eq.{bytes_eq-Decides}
-use Rattle.hn_base.specs.Name.{name_text}
+use Rattle.hn_base.proofs.Names.{rules, ◌≡◌, ◌≢◌, ◌<◌, ◌≤◌, ◌-◌, ◌∙◌, ℕ, length, get_or, take, sym, ap, subst, arith, common_steps, bytes_eq-Decides, name_text}
 use Rattle.hn_world.proofs.SameNames.{AreSameFrom, same_texts, other_byte, not_same}
 use Rattle.hn_world.proofs.member.are_same.Goals as goal
 

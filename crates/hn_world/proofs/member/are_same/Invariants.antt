@@ -1,4 +1,4 @@
-use Rattle.std.proofs.Common.{◌≤◌}
+use Rattle.hn_base.proofs.Names.{◌≤◌}
 use Rattle.hn_world.proofs.SameNames.{AreSameFrom}
 use Rattle.hn_world.proofs.member.are_same.Given as goal
 

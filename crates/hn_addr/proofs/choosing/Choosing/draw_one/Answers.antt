@@ -1,10 +1,5 @@
-use Rattle.std.proofs.Common.{◌∙◌, ℕ, List, [], ◌∷◌, ap, subst}
-use Rattle.std.proofs.lemmas.Result.{on_ok_weaker}
-use Rattle.hn_own.specs.Addresses.{OwnAddress}
-use Rattle.hn_rules.specs.Seen.{seen_by}
-use Rattle.hn_addr.specs.Addresses.{adding}
-use Rattle.hn_addr.specs.Choosings.{IsFirstAround}
-use Rattle.hn_addr.specs.declared.choosing.Choosing.{Choosing}
+use Rattle.hn_base.proofs.Names.{◌∙◌, ℕ, List, [], ◌∷◌, ap, subst, on_ok_weaker}
+use Rattle.hn_addr.proofs.Names.{OwnAddress, seen_by, adding, IsFirstAround, Choosing}
 use Rattle.hn_addr.proofs.FirstFittingNumber.{first_fit}
 use Rattle.hn_addr.proofs.choosing.Choosing.draw_one.Goals as goal
 

@@ -1,11 +1,5 @@
-use Rattle.std.proofs.Common.{◌∙◌, ℕ, List, refl, ap, subst, inr}
-use Rattle.std.proofs.lemmas.List.{append-nil}
-use Rattle.std.proofs.lemmas.Result.{on_ok_weaker}
-use Rattle.hn_own.specs.Addresses.{OwnAddress}
-use Rattle.hn_rules.specs.Seen.{seen_by}
-use Rattle.hn_addr.specs.Addresses.{Stays}
-use Rattle.hn_addr.specs.Numbers.{HasNoneFrom}
-use Rattle.hn_addr.specs.declared.choosing.Choosing.{Choosing}
+use Rattle.hn_base.proofs.Names.{◌∙◌, ℕ, List, refl, ap, subst, inr, append-nil, on_ok_weaker}
+use Rattle.hn_addr.proofs.Names.{OwnAddress, seen_by, Stays, HasNoneFrom, Choosing}
 use Rattle.hn_addr.proofs.OneChoosing.{draws_none}
 use Rattle.hn_addr.proofs.FirstFittingNumber.{none_fits}
 use Rattle.hn_addr.proofs.choosing.Choosing.step.Goals as goal

@@ -1,7 +1,6 @@
-use Rattle.std.proofs.Common.{◌↔◌, List, Contains, subst}
-use Rattle.hn_base.specs.declared.ids.NodeId.{NodeId}
+use Rattle.hn_base.proofs.Names.{◌↔◌, List, Contains, subst}
+use Rattle.hn_addr.proofs.Names.{NodeId, Taken}
 use Rattle.hn_addr.specs.Others.{addresses_of_others}
-use Rattle.hn_addr.specs.declared.others.Taken.{Taken}
 use Rattle.hn_addr.proofs.others.Others.of.Goals as goal
 
 pub returns : goal.returns

@@ -1,4 +1,4 @@
-use Rattle.std.proofs.Common.{refl}
+use Rattle.hn_base.proofs.Names.{refl}
 use Rattle.hn_assign.proofs.Published.{advertise_same, advertise_as_before, if_not}
 use Rattle.hn_assign.proofs.assignments.OfPairs+Assigned.change.Goals as goal
 

@@ -1,7 +1,5 @@
-use Rattle.std.proofs.Common.{◌≡◌, ◌++◌, take, drop, length, map, sym, subst, arith}
-use Rattle.std.proofs.lemmas.Grind.{common_steps}
-use Rattle.hn_assign.specs.Marks.{marked_applied}
-use Rattle.hn_assign.specs.Pair.{assigned_pair, IsAscending}
+use Rattle.hn_base.proofs.Names.{◌≡◌, ◌++◌, take, drop, length, map, sym, subst, arith, common_steps}
+use Rattle.hn_assign.proofs.Names.{marked_applied, assigned_pair, IsAscending}
 use Rattle.hn_assign.proofs.Marking.{ascending_marked}
 use Rattle.hn_assign.proofs.assignments.OfPairs+Assigned.mark.Goals as goal
 

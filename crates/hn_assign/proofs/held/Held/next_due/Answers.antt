@@ -1,9 +1,6 @@
-use Rattle.std.proofs.Common.{◌↔◌, ◌⊎◌, ℕ, List, subst, inl, inr}
-use Rattle.hn_base.specs.Sooner.{IsSooner, IsOfElement}
+use Rattle.hn_base.proofs.Names.{◌↔◌, ◌⊎◌, ℕ, List, subst, inl, inr, IsSooner, IsOfElement}
+use Rattle.hn_assign.proofs.Names.{Assigned, Backoff, IsBackoffDue, IsMarkDue, IsHeldDue}
 use Rattle.hn_base.proofs.NextDue.{sooner_both, sooner_same}
-use Rattle.hn_assign.specs.declared.assigned.Assigned.{Assigned}
-use Rattle.hn_assign.specs.declared.backoff.Backoff.{Backoff}
-use Rattle.hn_assign.specs.Due.{IsBackoffDue, IsMarkDue, IsHeldDue}
 use Rattle.hn_assign.proofs.held.Held.next_due.Goals as goal
 
 pub returns : goal.returns

@@ -1,4 +1,4 @@
-use Rattle.std.proofs.Common.{◌≡◌, ◌∙◌, ap, arith}
+use Rattle.hn_base.proofs.Names.{◌≡◌, ◌∙◌, ap, arith}
 use Rattle.hn_assign.proofs.FreePrefixes.{prefixes, found_free, none_free, none_in_longer}
 use Rattle.hn_assign.proofs.index.Index.first_free.Goals as goal
 

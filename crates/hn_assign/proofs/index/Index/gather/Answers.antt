@@ -1,9 +1,5 @@
-use Rattle.std.proofs.Common.{List}
-use Rattle.std.proofs.lemmas.Result.{IfOk-weaker}
-use Rattle.hn_base.specs.Ascending.{HaveSame}
-use Rattle.hn_data.specs.View.{plain_view}
-use Rattle.hn_assign.specs.declared.assigned.Advertised.{Advertised}
-use Rattle.hn_assign.specs.Gathered.{AreAdvertised}
+use Rattle.hn_base.proofs.Names.{List, IfOk-weaker, HaveSame}
+use Rattle.hn_assign.proofs.Names.{plain_view, Advertised, AreAdvertised}
 use Rattle.hn_assign.proofs.Indexes.{advertised_same}
 use Rattle.hn_assign.proofs.index.Index.gather.Goals as goal
 

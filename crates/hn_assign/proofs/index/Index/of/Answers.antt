@@ -1,6 +1,6 @@
-use Rattle.std.proofs.Common.{List, IfOk, subst}
-use Rattle.hn_base.specs.Ascending.{HaveSame}
-use Rattle.hn_assign.specs.declared.assigned.Advertised.{Advertised}
+use Rattle.hn_base.proofs.Names.{List, subst, HaveSame}
+use Rattle.hn_assign.proofs.Names.{Advertised}
+use Rattle.std.proofs.Common.{IfOk}
 use Rattle.hn_assign.proofs.index.Index.of.Goals as goal
 
 pub returns : goal.returns

@@ -1,8 +1,6 @@
-use Rattle.std.proofs.Common.{◌≡◌, ◌<◌, ◌≤◌, ◌∙◌, List, length, length-drop, ◌-◌, take, take_all, drop, nat_lt, sym, subst, arith, rules, tests, ap}
-use Rattle.std.specs.List.Sorted.{IsNonDecreasingBy}
-use Rattle.std.proofs.lemmas.List.Sorted.{IsPartitionPoint-from_clause, IsPartitionedBy-ltb}
-use Rattle.hn_assign.specs.declared.assigned.Advertised.{Advertised}
-use Rattle.hn_assign.specs.Indexed.{IsFrontUpTo}
+use Rattle.hn_base.proofs.Names.{◌≡◌, ◌<◌, ◌≤◌, ◌∙◌, List, length, ◌-◌, take, drop, nat_lt, sym, subst, arith, rules, tests, ap, IsNonDecreasingBy, IsPartitionPoint-from_clause, IsPartitionedBy-ltb}
+use Rattle.hn_assign.proofs.Names.{length-drop, Advertised, IsFrontUpTo}
+use Rattle.std.proofs.Common.{take_all}
 use Rattle.hn_assign.proofs.Ranges.{IsBelow, IsFromTo, in_front}
 use Rattle.hn_assign.proofs.index.Index.starting_in.Goals as goal
 

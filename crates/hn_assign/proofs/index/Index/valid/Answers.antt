@@ -1,5 +1,5 @@
-use Rattle.std.proofs.Common.{◌≡◌, ◌≤◌, ◌∙◌, ap, sym, arith}
-use Rattle.hn_assign.specs.Indexed.{short_of}
+use Rattle.hn_base.proofs.Names.{◌≡◌, ◌≤◌, ◌∙◌, ap, sym, arith}
+use Rattle.hn_assign.proofs.Names.{short_of}
 use Rattle.hn_assign.proofs.Indexes.{IsStarting, valid_of_parts, valid_of_part, valid_of_short}
 use Rattle.hn_assign.proofs.index.Index.valid.Goals as goal
 

@@ -1,9 +1,5 @@
-use Rattle.std.proofs.Common.{not, rules, tests}
-use Rattle.std.specs.Prelude.{◌==◌}
-use Rattle.std.specs.Ordering.{on}
-use Rattle.std.proofs.lemmas.Fn.{filter_same}
-use Rattle.std.proofs.lemmas.List.Kept.{IsStrictlySortedBy-filter}
-use Rattle.hn_assign.specs.Pair.{pair_cmp}
+use Rattle.hn_base.proofs.Names.{not, rules, tests, ◌==◌, on, filter_same, IsStrictlySortedBy-filter}
+use Rattle.hn_assign.proofs.Names.{pair_cmp}
 use Rattle.hn_assign.proofs.of_pairs.OfPairs.remove.Goals as goal
 
 pub invariant_of-self : goal.invariant_of-self

@@ -1,6 +1,5 @@
-use Rattle.std.proofs.Common.{◌↔◌, IsTrue, subst}
-use Rattle.hn_assign.specs.Advertised.{LinkEndpoints}
-use Rattle.hn_assign.specs.Best.{IsValid}
+use Rattle.hn_base.proofs.Names.{◌↔◌, IsTrue, subst}
+use Rattle.hn_assign.proofs.Names.{LinkEndpoints, IsValid}
 use Rattle.hn_assign.proofs.scene.Scene.is_valid.Goals as goal
 
 pub returns : goal.returns

@@ -1,7 +1,5 @@
-use Rattle.std.proofs.Common.{List, Some, Ok, Err, subst, refl}
-use Rattle.hn_assign.specs.declared.assigned.Wish.{Wish}
-use Rattle.hn_assign.specs.declared.pair.Pair.{Pair}
-use Rattle.hn_assign.specs.Pair.{wish_pair, IsPlaceOfPair}
+use Rattle.hn_base.proofs.Names.{List, Some, Ok, Err, subst, refl}
+use Rattle.hn_assign.proofs.Names.{Wish, Pair, wish_pair, IsPlaceOfPair}
 use Rattle.hn_assign.proofs.AroundPair.{put_between, none_between, found_where}
 use Rattle.hn_assign.proofs.WishLemmas.{one_wish_more, wishes_more}
 use Rattle.hn_assign.proofs.wishes.Wishes.add.Goals as goal

@@ -1,6 +1,5 @@
-use Rattle.hn_base.specs.Name.{name_text}
-use Rattle.hn_world.specs.Replay.{IsSoundWorld}
-use Rattle.hn_audit.specs.Quiet.{IsQuiet}
+use Rattle.hn_base.proofs.Names.{name_text}
+use Rattle.hn_audit.proofs.Names.{IsSoundWorld, IsQuiet}
 use Rattle.hn_audit.proofs.QuietSets.{quiet_is_fixed, quiet_or_acts, unchanged_is_quiet, named_runs}
 use Rattle.hn_audit.proofs.Searching.{told_none}
 use Rattle.hn_audit.proofs.audit.WorldAudit.quiet.Goals as goal

@@ -1,4 +1,4 @@
-use Rattle.hn_audit.specs.Settled.{IsSettled}
+use Rattle.hn_audit.proofs.Names.{IsSettled}
 use Rattle.hn_audit.proofs.Searching.{told_none}
 use Rattle.hn_audit.proofs.audit.WorldAudit.settled.Goals as goal
 

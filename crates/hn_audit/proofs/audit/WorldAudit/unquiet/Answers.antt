@@ -1,9 +1,5 @@
-use Rattle.std.proofs.Common.{◌≡◌, ◌↔◌, ◌∙◌, IfSome, None, subst}
-use Rattle.std.proofs.lemmas.Option.{same_Some}
-use Rattle.hn_world.specs.declared.member.Member.{Member}
-use Rattle.hn_audit.specs.FirstWitness.{IsFirstUnquiet}
-use Rattle.hn_audit.specs.Quiet.{IsQuiet}
-use Rattle.hn_audit.specs.Witness.{Disturbs}
+use Rattle.hn_base.proofs.Names.{◌≡◌, ◌↔◌, ◌∙◌, IfSome, None, subst, same_Some}
+use Rattle.hn_audit.proofs.Names.{Member, IsFirstUnquiet, IsQuiet, Disturbs}
 use Rattle.hn_audit.proofs.Disturbing.{first_tells}
 use Rattle.hn_audit.proofs.audit.WorldAudit.unquiet.Goals as goal
 

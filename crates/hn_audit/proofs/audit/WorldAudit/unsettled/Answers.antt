@@ -1,9 +1,5 @@
-use Rattle.std.proofs.Common.{◌≡◌, ◌↔◌, ◌∙◌, IfSome, None, subst}
-use Rattle.std.proofs.lemmas.Option.{same_Some}
-use Rattle.hn_world.specs.declared.member.Member.{Member}
-use Rattle.hn_audit.specs.FirstWitness.{IsFirstUnsettled}
-use Rattle.hn_audit.specs.Settled.{IsSettled}
-use Rattle.hn_audit.specs.Witness.{Refutes}
+use Rattle.hn_base.proofs.Names.{◌≡◌, ◌↔◌, ◌∙◌, IfSome, None, subst, same_Some}
+use Rattle.hn_audit.proofs.Names.{Member, IsFirstUnsettled, IsSettled, Refutes}
 use Rattle.hn_audit.proofs.Judging.{first_says}
 use Rattle.hn_audit.proofs.audit.WorldAudit.unsettled.Goals as goal
 

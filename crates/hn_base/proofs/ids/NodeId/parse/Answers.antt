@@ -1,4 +1,4 @@
-use Rattle.std.proofs.Common.{arith}
+use Rattle.hn_base.proofs.Names.{arith}
 use Rattle.hn_base.proofs.NumeralLemmas.{number_below}
 use Rattle.hn_base.proofs.ids.NodeId.parse.Goals as goal
 

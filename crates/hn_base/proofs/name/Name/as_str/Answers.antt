@@ -1,5 +1,4 @@
-use Rattle.std.proofs.Common.{take}
-use Rattle.std.specs.Str.{IsUtf8}
+use Rattle.hn_base.proofs.Names.{take, IsUtf8}
 use Rattle.hn_base.proofs.NameBytes.{IsUtf8-from_name_bytes}
 use Rattle.hn_base.proofs.name.Name.as_str.Goals as goal
 

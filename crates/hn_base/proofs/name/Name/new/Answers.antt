@@ -1,9 +1,7 @@
 -- A name keeps the text in front, and zeros after it.
-use Rattle.std.proofs.Common.{◌≡◌, ◌∙◌, ℕ, List, ◌++◌, length, drop, subst, sym}
+use Rattle.hn_base.proofs.Names.{◌≡◌, ◌∙◌, ℕ, List, ◌++◌, length, drop, subst, sym, take-append_seam, drop-append_seam, IsNameText, IsPadded, first_bytes}
 use Rattle.std.proofs.Math.ListN.{replicate}
-use Rattle.std.proofs.Math.Seq.{take-append_seam, drop-append_seam}
 use Rattle.std.proofs.lemmas.List.{drop-replicate}
-use Rattle.hn_base.specs.NameText.{IsNameText, IsPadded, first_bytes}
 use Rattle.hn_base.proofs.name.Name.new.Goals as goal
 
 front : (text zeros : List ℕ) → first_bytes (length text) (text ++ zeros) ≡ text

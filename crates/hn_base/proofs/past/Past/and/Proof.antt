@@ -1,20 +1,14 @@
 -- The body stores a struct without data and reads neither reference, so both are returned as they were passed.
-use mathlib.Core.Path.{refl}
-use mathlib.Core.List.{[], ◌∷◌, ◌++◌}
-use mir.Syntax.{a_type, named}
-use mir.MapTy.{inst_fn}
-use types.Kit.{‵, raw, ◌⊛◌, ◌$◌, ◌∵◌, !, qed, move, keep, split, suffices, done}
-use types.Part.{agg}
-use types.Run.{enter, returns, and_then, no_more}
-use types.ByLocal.{alloc_all, pass_all, free_all, look_at, get, sets}
+use Rattle.hn_base.proofs.Names.{proved}
+use Rattle.hn_base.proofs.Names.{refl, [], ◌∷◌, a_type, inst_fn, ‵, raw, ◌⊛◌, ◌$◌, ◌∵◌, !, qed, move, keep, split, suffices, done, agg, enter, returns, and_then, no_more, alloc_all, pass_all}
+use Rattle.hn_base.proofs.Names.{free_all, look_at, get, sets, RattleType, owns, param, layouts, types_at, alive, says, ends_at}
+use mathlib.Core.List.{◌++◌}
+use mir.Syntax.{named}
 use denote.Exit.{yes}
-use denote.RattleType.{RattleType, Valss, owns}
-use denote.Param.{param, layouts}
+use denote.RattleType.{Valss}
 use denote.Ref.{shr_vals, shr_Tells}
-use denote.Signature.{plain, types_at}
-use denote.Triple.Entry.{alive}
-use denote.Triple.Walked.{says, Stays, stay_none_ref, Goes-none_ref, ends_at}
-use Rattle.std.proofs.raw_atomic.Walks.{proved}
+use denote.Signature.{plain}
+use denote.Triple.Walked.{Stays, stay_none_ref, Goes-none_ref}
 use Rattle.hn_base.proofs.PastOwnsNothing.{stored, past_owns_nothing}
 use Rattle.hn_base.specs.contracts.past.Past as past
 use Rattle.hn_base.specs.contracts.past.Past.and as f

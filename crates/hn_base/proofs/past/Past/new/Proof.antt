@@ -1,18 +1,7 @@
 -- The body stores a struct without data, and the walk names the empty list as its items.
-use mathlib.Core.Path.{refl}
-use mathlib.Core.List.{[], ◌∷◌}
-use mir.Syntax.{a_type}
-use mir.MapTy.{inst_fn}
-use types.Kit.{‵, raw, ◌⊛◌, ◌$◌, ◌∵◌, !, qed, move, keep, split, suffices, done}
-use types.Part.{agg}
-use types.Run.{enter, returns, and_then, no_more}
-use types.ByLocal.{alloc_all, pass_all, free_all, look_at, get, sets}
-use denote.RattleType.{owns}
-use denote.Param.{param, layouts}
-use denote.Signature.{types_at}
-use denote.Triple.Entry.{alive}
-use denote.Triple.Walked.{says, ends_at}
-use Rattle.std.proofs.raw_atomic.Walks.{proved}
+use Rattle.hn_base.proofs.Names.{proved}
+use Rattle.hn_base.proofs.Names.{refl, [], ◌∷◌, a_type, inst_fn, ‵, raw, ◌⊛◌, ◌$◌, ◌∵◌, !, qed, move, keep, split, suffices, done, agg, enter, returns, and_then, no_more, alloc_all, pass_all}
+use Rattle.hn_base.proofs.Names.{free_all, look_at, get, sets, owns, param, layouts, types_at, alive, says, ends_at}
 use Rattle.hn_base.proofs.PastOwnsNothing.{stored, past_owns_nothing}
 use Rattle.hn_base.specs.contracts.past.Past as past
 use Rattle.hn_base.specs.contracts.past.Past.new as f

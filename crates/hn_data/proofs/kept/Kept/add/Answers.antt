@@ -1,10 +1,5 @@
-use Rattle.std.proofs.Common.{List, [], ◌∷◌, ◌++◌, subst}
-use Rattle.std.proofs.lemmas.Result.{on_ok_weaker}
-use Rattle.std.proofs.lemmas.List.{append-nil}
-use Rattle.hn_tlv.specs.View.{plain}
-use Rattle.hn_typed.specs.Item.{PlainItem}
-use Rattle.hn_typed.specs.View.{plain_item}
-use Rattle.hn_data.specs.Items.{IsReading}
+use Rattle.hn_base.proofs.Names.{List, [], ◌∷◌, ◌++◌, subst, on_ok_weaker, append-nil}
+use Rattle.hn_data.proofs.Names.{plain, PlainItem, plain_item, IsReading}
 use Rattle.hn_data.proofs.OneMoreItem.{reads_one, reads_none, readings_join}
 use Rattle.hn_data.proofs.kept.Kept.add.Goals as goal
 

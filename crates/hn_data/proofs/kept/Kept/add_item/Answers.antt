@@ -1,6 +1,4 @@
-use Rattle.hn_typed.specs.View.{plain_item, plain_caps}
-use Rattle.hn_data.specs.Peers.{peer_of}
-use Rattle.hn_data.specs.Said.{interval_of, assigned_prefix_of, node_address_of}
+use Rattle.hn_data.proofs.Names.{plain_item, plain_caps, peer_of, interval_of, assigned_prefix_of, node_address_of}
 use Rattle.hn_data.proofs.OneMoreItem.{on_ok_both, set_more, list_more, version_more, external_more, delegations_more, in_order_more}
 use Rattle.hn_data.proofs.kept.Kept.add_item.Goals as goal
 

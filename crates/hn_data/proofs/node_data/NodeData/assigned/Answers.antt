@@ -1,6 +1,5 @@
-use Rattle.std.proofs.Common.{Contains, ◌∙◌}
-use Rattle.std.specs.List.{filter_map}
-use Rattle.hn_data.specs.Said.{assigned_prefix_of}
+use Rattle.hn_base.proofs.Names.{Contains, ◌∙◌, filter_map}
+use Rattle.hn_data.proofs.Names.{assigned_prefix_of}
 use Rattle.hn_data.proofs.OneReading.{contains_read}
 use Rattle.hn_data.proofs.node_data.NodeData.assigned.Goals as goal
 

@@ -1,7 +1,5 @@
-use Rattle.std.proofs.Common.{List, sym, subst}
-use Rattle.std.specs.List.{filter_map}
-use Rattle.hn_data.specs.Delegations.{external_of, IsDelegatedIn, AreInsideInOrder}
-use Rattle.hn_data.specs.declared.said.Delegation.{Delegation}
+use Rattle.hn_base.proofs.Names.{List, sym, subst, filter_map}
+use Rattle.hn_data.proofs.Names.{external_of, IsDelegatedIn, AreInsideInOrder, Delegation}
 use Rattle.hn_data.proofs.OneReading.{contains_read}
 use Rattle.hn_data.proofs.node_data.NodeData.delegations.Goals as goal
 

@@ -1,5 +1,4 @@
-use Rattle.std.proofs.Common.{refl}
-use Rattle.std.proofs.lemmas.Result.{err_from_is_err_and}
+use Rattle.hn_base.proofs.Names.{refl, err_from_is_err_and}
 use Rattle.hn_base.proofs.Results.{tells_passed, tells_unfound}
 use Rattle.hn_tlv.specs.declared.fault.TlvFault.{TlvFault}
 use Rattle.hn_tlv.specs.declared.list_fault.ListFault.TheVariants.{Malformed}

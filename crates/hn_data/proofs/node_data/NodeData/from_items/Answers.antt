@@ -1,6 +1,5 @@
-use Rattle.std.proofs.Common.{subst}
-use Rattle.std.proofs.lemmas.Result.{IfOk-weaker}
-use Rattle.hn_data.specs.OwnData.{AreBytes}
+use Rattle.hn_base.proofs.Names.{subst, IfOk-weaker}
+use Rattle.hn_data.proofs.Names.{AreBytes}
 use Rattle.hn_data.proofs.WrittenPieces.{set_is_written, reads_written}
 use Rattle.hn_data.proofs.node_data.NodeData.from_items.Goals as goal
 

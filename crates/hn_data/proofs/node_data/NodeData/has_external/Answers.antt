@@ -1,4 +1,4 @@
-use Rattle.hn_data.specs.Delegations.{IsConnected}
+use Rattle.hn_data.proofs.Names.{IsConnected}
 use Rattle.hn_data.proofs.OneReading.{reads_at}
 use Rattle.hn_data.proofs.node_data.NodeData.has_external.Goals as goal
 

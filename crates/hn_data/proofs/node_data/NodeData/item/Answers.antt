@@ -1,7 +1,5 @@
-use Rattle.std.proofs.Common.{subst}
-use Rattle.hn_tlv.specs.Grammar.{PlainTlv, IsTlvAt}
-use Rattle.hn_tlv.specs.View.{plain}
-use Rattle.hn_data.specs.Walk.{Decodes}
+use Rattle.hn_base.proofs.Names.{subst}
+use Rattle.hn_data.proofs.Names.{PlainTlv, IsTlvAt, plain, Decodes}
 use Rattle.hn_data.proofs.DoneUpTo.{decodes}
 use Rattle.hn_data.proofs.node_data.NodeData.item.Goals as goal
 

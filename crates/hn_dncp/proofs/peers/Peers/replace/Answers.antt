@@ -1,7 +1,5 @@
-use Rattle.std.proofs.Common.{◌≡◌, position, None, sym}
-use Rattle.hn_dncp.specs.declared.peers.Neighbour.{Neighbour}
-use Rattle.hn_dncp.specs.Peers.{is_peer}
-use Rattle.hn_base.proofs.PassingElements.{map-unpassed}
+use Rattle.hn_base.proofs.Names.{◌≡◌, position, None, sym}
+use Rattle.hn_dncp.proofs.Names.{Neighbour, is_peer, map-unpassed}
 use Rattle.hn_dncp.proofs.PeerLemmas.{renewed, found_key, ArePeers-set}
 use Rattle.hn_dncp.proofs.peers.Peers.replace.Goals as goal
 

@@ -1,6 +1,6 @@
-use Rattle.std.proofs.Common.{◌≡◌}
+use Rattle.hn_base.proofs.Names.{◌≡◌}
+use Rattle.hn_dncp.proofs.Names.{silence_end}
 use Rattle.hn_timers.specs.Due.{IsIntervalDue}
-use Rattle.hn_timers.specs.KeepAlive.{silence_end}
 use Rattle.hn_base.proofs.NextDue.{sooner_both}
 use Rattle.hn_dncp.proofs.port.Port.next_due.Goals as goal
 

@@ -1,7 +1,5 @@
-use Rattle.std.proofs.Common.{◌≡◌, ℕ, List, ◌++◌, subst, take, arith}
+use Rattle.hn_base.proofs.Names.{◌≡◌, ℕ, List, ◌++◌, subst, take, arith, common_steps, Took}
 use Rattle.std.specs.Option.{option_to_list}
-use Rattle.std.proofs.lemmas.Grind.{common_steps}
-use Rattle.hn_base.specs.Words.{Took}
 use Rattle.hn_dncp.proofs.port.Port.tick.Goals as goal
 use Rattle.hn_dncp.proofs.port.Port.tick.Goals.{in-None-None, in-Some-Some, in-Some-None, in-Some-None-2}
 

@@ -1,30 +1,13 @@
 -- `look`: the place goes out of the one field, is compared with null, and goes into a handle again.
-use Rattle.std.proofs.Common.{◌≡◌, List, [], ◌∷◌, ◌++◌, refl, ◌∙◌}
-use Rattle.std.specs.Prelude.{is_none}
-use mathlib.Core.Bool.{true, ◌&&◌}
-use lib.Dec.{T}
-use mir.Syntax.{ty_ptr}
-use mir.Val.{Val, vbool, vstruct, vcons, vnil, of_list, has_ty, WT}
-use base.Logic.{SProp, emp}
-use base.Fml.{ftrue}
-use prog.Wp.{WpFn}
-use types.Kit.{‵, raw, ◌⊛◌, given, learn, ◌$◌, ◌∵◌, !, qed, by, move, keep, drop, split, fsplit, fjoin, fpick, fpack, suffices, use0, use1, feq_i, feq_l}
-use types.Run.{stop, fld, of_opd, bin, lit, no_more, and_then, returns, enter}
-use types.ByLocal.{alloc_all, pass_all, free_all, look_at, get, get_in, sets, is}
-use types.Part.{agg, sub, whole}
-use contract.Monad.{fact, fact_i}
-use contract.Running.{tables}
-use denote.Builtin.{RawPtr, bool}
-use denote.RattleType.{Valss, owns}
-use denote.RawPtr.{ptr_val, rawptr_Lawful, tests_null}
-use denote.Signature.{types_at, plain}
-use denote.Steps.{nothing}
-use denote.Struct.Struct.{within}
-use denote.Struct.Owning.{shape}
-use denote.Triple.Walked.{Stays, stay_dropped, walk_of, Goes-dropped}
-use Rattle.std.proofs.raw_atomic.Walks.{proved_at, leaves}
-use Rattle.std_alloc.proofs.ResultValues.{and_tt}
-use Rattle.hn_handle.specs.Held.{held_at}
+use Rattle.hn_handle.proofs.Names.{◌≡◌, List, [], ◌∷◌, ◌++◌, refl, ◌∙◌, is_none, true, ◌&&◌, T, ty_ptr, Val, vbool, vstruct, vcons, vnil, of_list, has_ty, WT, SProp, emp, ftrue, WpFn, ‵, raw, ◌⊛◌}
+use Rattle.hn_handle.proofs.Names.{◌$◌, ◌∵◌, !, qed, by, move, keep, drop, split, fsplit, fjoin, fpick, fpack, suffices, use0, use1, feq_i, feq_l, stop, fld, of_opd, no_more, and_then, returns, enter}
+use Rattle.hn_handle.proofs.Names.{alloc_all, pass_all, free_all, look_at, get, get_in, sets, agg, sub, whole, fact, fact_i, tables, RawPtr, Valss, owns, ptr_val, rawptr_Lawful, types_at, plain}
+use Rattle.hn_handle.proofs.Names.{nothing, within, shape, Stays, stay_dropped, walk_of, Goes-dropped, proved_at, leaves, and_tt, held_at}
+use types.Kit.{given, learn}
+use types.Run.{bin, lit}
+use types.ByLocal.{is}
+use denote.Builtin.{bool}
+use denote.RawPtr.{tests_null}
 use Rattle.hn_handle.proofs.Held.{is_null, answered, Tells, tested}
 use Rattle.hn_handle.proofs.Parts.{both, one_argument, paired}
 use Rattle.hn_handle.specs.contracts.handle.Handle as handle

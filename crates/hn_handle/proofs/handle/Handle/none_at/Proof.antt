@@ -1,24 +1,10 @@
 -- `none_at`: the pointer, which is null, is the one field, and the handle owns nothing.
-use Rattle.std.proofs.Common.{◌≡◌, List, [], ◌∷◌, refl, sym}
-use mir.Syntax.{ty_ptr}
-use mir.Val.{Val, vstruct, vcons, vnil, has_ty}
-use base.Logic.{emp}
-use types.Kit.{‵, raw, rewrite, ◌$◌, ◌∵◌, !, qed, by, keep, drop, fjoin, fpack, use0, feq_i}
-use types.Run.{no_more, and_then, returns, enter}
-use types.ByLocal.{alloc_all, pass_all, free_all, look_at, get, sets}
-use types.Part.{agg}
-use contract.Monad.{fact, fact_i}
-use denote.Builtin.{RawPtr}
-use denote.RattleType.{Valss}
-use denote.RawPtr.{Ptr, null_ptr, rawptr_vals, rawptr_Tells, rawptr_Lawful, ptr_val}
-use denote.Signature.{plain}
-use denote.Steps.{nothing, heard}
-use denote.Struct.Struct.{within}
-use denote.Struct.Owning.{shape}
+use Rattle.hn_handle.proofs.Names.{◌≡◌, List, [], ◌∷◌, refl, sym, ty_ptr, Val, vstruct, vcons, vnil, has_ty, emp, ‵, raw, rewrite, ◌$◌, ◌∵◌, !, qed, by, keep, drop, fjoin, fpack, use0, feq_i, no_more}
+use Rattle.hn_handle.proofs.Names.{and_then, returns, enter, alloc_all, pass_all, free_all, look_at, get, sets, agg, fact, fact_i, RawPtr, Valss, Ptr, null_ptr, rawptr_Lawful, ptr_val, plain, nothing}
+use Rattle.hn_handle.proofs.Names.{heard, within, shape, Stays, stay_dropped, walk_of, Goes-dropped, leaves, and_tt}
+use denote.RawPtr.{rawptr_vals, rawptr_Tells}
 use denote.Triple.Entry.{on_entry}
-use denote.Triple.Walked.{Stays, stay_dropped, walk_of, Goes-dropped}
-use Rattle.std.proofs.raw_atomic.Walks.{proved, leaves}
-use Rattle.std_alloc.proofs.ResultValues.{and_tt}
+use Rattle.std.proofs.raw_atomic.Walks.{proved}
 use Rattle.hn_handle.specs.Held.{held_at, nowhere}
 use Rattle.hn_handle.proofs.Held.{none}
 use Rattle.hn_handle.specs.contracts.handle.Handle as handle

@@ -1,27 +1,9 @@
 -- `unwrap`: the place goes out of the one field, beside the allocator, with what the handle owned.
-use Rattle.std.proofs.Common.{◌≡◌, List, [], ◌∷◌, ◌++◌, refl, sym, ap, ◌∙◌, subst}
+use Rattle.hn_handle.proofs.Names.{◌≡◌, List, [], ◌∷◌, ◌++◌, refl, sym, ap, ◌∙◌, subst, Val, vptr, vstruct, vcons, vnil, of_list, SProp, ent, emp, id⊢, never, fst∗, ftrue, WpFn, sem, ‵, raw, ◌⊛◌, ◌$◌}
+use Rattle.hn_handle.proofs.Names.{◌∵◌, !, qed, by, move, keep, drop, split, fsplit, fjoin, fpick, suffices, use0, feq_l, rewrite, stop, fld, of_opd, no_more, and_then, returns, enter, alloc_all}
+use Rattle.hn_handle.proofs.Names.{pass_all, free_all, look_at, get, get_in, sets, agg, sub, whole, fact, fact_i, tables, owns, lone, Ptr, block_ptr, null_ptr, ptr_val, in_a_block, types_at, plain}
+use Rattle.hn_handle.proofs.Names.{nothing, heard, Stays, stay_dropped, walk_of, Goes-dropped, handle_tells, box_owns, proved_at, leaves, Option, IsSome}
 use mir.Raw.{raw as bare}
-use mir.Val.{Val, vptr, vstruct, vcons, vnil, of_list}
-use base.Logic.{SProp, ent, emp, id⊢, never, fst∗}
-use base.Fml.{ftrue}
-use prog.Wp.{WpFn}
-use types.Logic.{sem}
-use types.Kit.{‵, raw, ◌⊛◌, ◌$◌, ◌∵◌, !, qed, by, move, keep, drop, split, fsplit, fjoin, fpick, suffices, use0, feq_l, rewrite}
-use types.Run.{stop, fld, of_opd, no_more, and_then, returns, enter}
-use types.ByLocal.{alloc_all, pass_all, free_all, look_at, get, get_in, sets}
-use types.Part.{agg, sub, whole}
-use contract.Monad.{fact, fact_i}
-use contract.Running.{tables}
-use denote.RattleType.{owns}
-use denote.Memory.{lone}
-use denote.RawPtr.{Ptr, block_ptr, null_ptr, ptr_val, in_a_block}
-use denote.Signature.{types_at, plain}
-use denote.Steps.{nothing, heard}
-use denote.Triple.Walked.{Stays, stay_dropped, walk_of, Goes-dropped}
-use Rattle.core.proofs.alloc.Calls.{handle_tells}
-use Rattle.std_alloc.specs.Box.Ownership.{box_owns}
-use Rattle.std.proofs.raw_atomic.Walks.{proved_at, leaves}
-use Rattle.std.specs.Prelude.{Option, IsSome}
 use Rattle.std_heap.specs.contracts.Global.{the_row as Z}
 use Rattle.std_heap.proofs.Global.TheLaws.{the_row_laws as LZ}
 use Rattle.std_heap.specs.contracts.GlobalAllocator.TheImpl.{ghosts as g}

@@ -1,24 +1,7 @@
 -- `wrap`: the place is kept as the one field, the allocator is let go, and the handle owns what the place owned.
-use Rattle.std.proofs.Common.{◌≡◌, List, [], ◌∷◌, refl}
-use mir.Val.{Val, vptr, vstruct, vcons, vnil}
-use base.Logic.{SProp, emp}
-use base.Fml.{ftrue}
-use prog.Wp.{WpFn}
-use types.Kit.{‵, raw, ◌⊛◌, ◌$◌, ◌∵◌, !, qed, by, move, keep, split, fsplit, fjoin, fpack, suffices, use0, feq_i}
-use types.Run.{stop, fld, of_opd, no_more, and_then, returns, enter}
-use types.ByLocal.{alloc_all, pass_all, free_all, look_at, get, get_in, sets}
-use types.Part.{agg, sub, whole}
-use contract.Monad.{fact, fact_i}
-use contract.Running.{tables}
-use denote.Builtin.{RawPtr}
-use denote.RattleType.{Valss, owns}
-use denote.RawPtr.{block_ptr}
-use denote.Signature.{types_at, plain}
-use denote.Steps.{nothing}
-use denote.Struct.Struct.{within}
-use denote.Struct.Owning.{shape}
-use denote.Triple.Walked.{Stays, stay_dropped, walk_of, Goes-dropped}
-use Rattle.std.proofs.raw_atomic.Walks.{proved_at, leaves}
+use Rattle.hn_handle.proofs.Names.{◌≡◌, List, [], ◌∷◌, refl, Val, vptr, vstruct, vcons, vnil, SProp, emp, ftrue, WpFn, ‵, raw, ◌⊛◌, ◌$◌, ◌∵◌, !, qed, by, move, keep, split, fsplit, fjoin, fpack}
+use Rattle.hn_handle.proofs.Names.{suffices, use0, feq_i, stop, fld, of_opd, no_more, and_then, returns, enter, alloc_all, pass_all, free_all, look_at, get, get_in, sets, agg, sub, whole, fact}
+use Rattle.hn_handle.proofs.Names.{fact_i, tables, RawPtr, Valss, owns, block_ptr, types_at, plain, nothing, within, shape, Stays, stay_dropped, walk_of, Goes-dropped, proved_at, leaves}
 use Rattle.std_heap.specs.contracts.Global.{the_row as Z}
 use Rattle.std_heap.proofs.Global.TheLaws.{the_row_laws as LZ}
 use Rattle.std_heap.specs.contracts.GlobalAllocator.TheImpl.{ghosts as g}

@@ -1,35 +1,15 @@
 -- `join`: the two fields are read, and `Box::from_raw` makes the box of them.
-use Rattle.std.proofs.Common.{◌≡◌, List, [], ◌∷◌, refl, sym, ap, subst}
-use mir.Val.{Val, vptr}
-use mir.MapTy.{inst_fn}
-use base.Logic.{SProp, id⊢}
-use base.Fml.{ftrue, flft}
-use prog.Wp.{WpFn}
-use types.Kit.{‵, raw, ◌⊛◌, some, later, at_ret, ◌$◌, ◌∵◌, !, qed, by, move, keep, drop, split, split3, join, fsplit, fjoin, pick, suffices, use1, await, rewrite, feq_i}
-use types.Run.{stop, fld, of_opd, no_more, and_then, first, blocks, exec, returns, enter}
-use types.ByLocal.{alloc_all, pass_all, free_all, look_at, get, get_in, sets, lands_last, env}
-use types.Part.{sub, whole}
-use contract.Monad.{fact}
+use Rattle.hn_handle.proofs.Names.{◌≡◌, List, [], ◌∷◌, refl, sym, ap, subst, Val, vptr, inst_fn, SProp, id⊢, ftrue, flft, WpFn, ‵, raw, ◌⊛◌, some, later, ◌$◌, ◌∵◌, !, qed, by, move, keep, drop, split}
+use Rattle.hn_handle.proofs.Names.{split3, join, fsplit, fjoin, pick, suffices, use1, await, rewrite, feq_i, stop, fld, of_opd, no_more, and_then, returns, enter, alloc_all, pass_all, free_all}
+use Rattle.hn_handle.proofs.Names.{look_at, get, get_in, sets, sub, whole, fact, tables, no, owns, types_at, plain, block_ptr, nothing, only, param, layout, param_laws, triple_of, framed, Stays}
+use Rattle.hn_handle.proofs.Names.{stay_dropped, walk_of, Goes-blank, Good, B, box_typed, box_out, box_in, proved_at, leaves}
+use types.Kit.{at_ret}
+use types.Run.{first, blocks, exec}
+use types.ByLocal.{lands_last, env}
 use contract.BorrowLft.{◌⊑◌}
-use contract.Running.{tables}
-use denote.Exit.{no}
-use denote.RattleType.{owns}
-use denote.Signature.{types_at, plain}
-use denote.RawPtr.{block_ptr}
-use denote.Steps.{nothing, only}
-use denote.Param.{param, layout}
-use denote.Param.Laws.{param_laws}
 use denote.Triple.Clauses.{Lasts, lasts}
-use denote.Triple.Spec.{triple_of}
 use denote.Triple.Call.{calls_at_last}
-use denote.Triple.Table.{framed}
-use denote.Triple.Walked.{Stays, stay_dropped, walk_of}
-use Rattle.core.proofs.alloc.Calls.{Goes-blank}
 use Rattle.std.proofs.VecSteps.Shapes.{after}
-use Rattle.core.proofs.cell.Inside.{Good}
-use Rattle.std_alloc.proofs.BoxSteps.Form.{B, box_typed}
-use Rattle.std_alloc.proofs.BoxSteps.Steps.{box_out, box_in}
-use Rattle.std.proofs.raw_atomic.Walks.{proved_at, leaves}
 use Rattle.std_alloc.specs.contracts.boxed.Box.from_raw as made
 use Rattle.std_alloc.proofs.boxed.Box.from_raw.Met.{met}
 use Rattle.hn_handle.proofs.Parts.{both, one_argument, Apart, boxed, given, fits, parts_out}

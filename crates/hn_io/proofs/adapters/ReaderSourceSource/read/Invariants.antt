@@ -1,4 +1,4 @@
-use Rattle.std.proofs.Common.{◌≡◌}
+use Rattle.hn_base.proofs.Names.{◌≡◌}
 use Rattle.hn_io.proofs.adapters.ReaderSourceSource.read.Given as goal
 
 -- a call that was interrupted is no fault

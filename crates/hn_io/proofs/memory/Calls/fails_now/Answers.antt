@@ -1,6 +1,4 @@
-use Rattle.std.proofs.Common.{◌≡◌, sym, suc, arith}
-use Rattle.std.specs.Prelude.{◌==◌}
-use Rattle.std.specs.List.{list_any}
+use Rattle.hn_base.proofs.Names.{◌≡◌, sym, suc, arith, ◌==◌, list_any}
 use Rattle.hn_io.proofs.CountedFaults.{caused}
 use Rattle.hn_io.proofs.memory.Calls.fails_now.Goals as goal
 

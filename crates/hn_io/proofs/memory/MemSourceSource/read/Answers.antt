@@ -1,5 +1,4 @@
-use Rattle.std.proofs.Common.{◌≡◌, ◌+◌, ◌-◌, ◌≤◌, ◌∙◌, ℕ, List, ◌++◌, take, drop, length, sym, ap, arith}
-use Rattle.std.proofs.lemmas.List.{drop-drop, drop_at, take-append-drop, take_at, take_rest, length-take-le}
+use Rattle.hn_base.proofs.Names.{◌≡◌, ◌+◌, ◌-◌, ◌≤◌, ◌∙◌, ℕ, List, ◌++◌, take, drop, length, sym, ap, arith, drop-drop, drop_at, take-append-drop, take_at, take_rest, length-take-le}
 use Rattle.hn_io.proofs.memory.MemSourceSource.read.Goals as goal
 
 -- as many bytes are copied as are asked for

@@ -1,4 +1,4 @@
-use Rattle.std.proofs.Common.{◌∙◌, ap, ℕ, suc, Some}
+use Rattle.hn_base.proofs.Names.{◌∙◌, ap, ℕ, suc, Some}
 use Rattle.rand_pcg.specs.Lcg.{Lcg}
 use Rattle.hn_io.specs.Pcg.{pcg_word}
 use Rattle.hn_io.proofs.GeneratorWords.{first_word, later_words}

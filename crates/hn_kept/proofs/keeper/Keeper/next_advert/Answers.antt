@@ -1,4 +1,4 @@
-use Rattle.std.proofs.Common.{ap}
+use Rattle.hn_base.proofs.Names.{ap}
 use Rattle.hn_kept.specs.Kept.{Kept}
 use Rattle.hn_kept.proofs.NextAdverts.{is_next}
 use Rattle.hn_kept.proofs.Sizes.{is_short}

@@ -1,4 +1,4 @@
-use Rattle.std.proofs.Common.{◌∙◌, ap, ℕ, suc, Some}
+use Rattle.hn_base.proofs.Names.{◌∙◌, ap, ℕ, suc, Some}
 use Rattle.rand_chacha.specs.ChaCha.{ChaCha}
 use Rattle.hn_kept.specs.Words.{chacha_word}
 use Rattle.hn_kept.proofs.Stream.{first_word, later_words}

@@ -1,6 +1,5 @@
-use Rattle.std.proofs.Common.{None, Err, refl, ap}
-use Rattle.hn_lab.specs.Delivery.{EventNotes, EventEnds}
-use Rattle.hn_lab.specs.Stage.{stage_of, words_of}
+use Rattle.hn_base.proofs.Names.{None, Err, refl, ap}
+use Rattle.hn_lab.proofs.Names.{EventNotes, EventEnds, stage_of, words_of}
 use Rattle.hn_lab.proofs.RunAnswers.{answer_on}
 use Rattle.hn_lab.proofs.RunEvents.{same_stage, not_applied, one_more}
 use Rattle.hn_lab.proofs.playing.Playing.noted.Goals as goal

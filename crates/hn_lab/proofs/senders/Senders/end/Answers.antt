@@ -1,7 +1,5 @@
-use Rattle.std.proofs.Common.{◌≡◌, not, rules, tests}
-use Rattle.std.proofs.lemmas.Fn.{filter_same}
-use Rattle.hn_lab.specs.declared.senders.Sending.{Sending}
-use Rattle.hn_lab.specs.Senders.{sends_at, without_sender}
+use Rattle.hn_base.proofs.Names.{◌≡◌, not, rules, tests, filter_same}
+use Rattle.hn_lab.proofs.Names.{Sending, sends_at, without_sender}
 use Rattle.hn_lab.proofs.Sendings.{order-filter}
 use Rattle.hn_lab.proofs.senders.Senders.end.Goals as goal
 

@@ -1,7 +1,6 @@
-use Rattle.std.proofs.Common.{◌≡◌, not, rules, tests}
-use Rattle.std.proofs.lemmas.Fn.{filter_same}
-use Rattle.hn_lab.specs.declared.senders.Sending.{Sending}
-use Rattle.hn_lab.specs.Senders.{is_sender_of, without_senders}
+use Rattle.hn_base.proofs.Names.{◌≡◌, not, rules, tests, filter_same}
+use Rattle.hn_lab.proofs.Names.{Sending, is_sender_of}
+use Rattle.hn_lab.specs.Senders.{without_senders}
 use Rattle.hn_lab.proofs.Sendings.{order-filter}
 use Rattle.hn_lab.proofs.senders.Senders.end_all.Goals as goal
 

@@ -1,5 +1,4 @@
-use Rattle.std.specs.Prelude.{◌≡◌, map, filter, take}
-use Rattle.hn_lab.specs.Senders.{is_sender_of}
+use Rattle.hn_lab.proofs.Names.{◌≡◌, map, filter, take, is_sender_of}
 use Rattle.hn_lab.proofs.senders.Senders.endpoints_of.Given as goal
 
 -- those of the router so far

@@ -1,8 +1,5 @@
-use Rattle.std.proofs.Common.{◌≤◌, ◌∙◌, ap, List, leb, None, length, rules, tests, subst}
-use Rattle.std.proofs.lemmas.List.Sorted.{IsPartitionPoint-from_clause}
-use Rattle.hn_radv.specs.Sender.{PlainSender}
-use Rattle.hn_lab.specs.declared.senders.Sending.{Sending}
-use Rattle.hn_lab.specs.Senders.{AreInOrder, placed, without_sender}
+use Rattle.hn_base.proofs.Names.{◌≤◌, ◌∙◌, ap, List, leb, None, length, rules, tests, subst, IsPartitionPoint-from_clause}
+use Rattle.hn_lab.proofs.Names.{PlainSender, Sending, AreInOrder, placed, without_sender}
 use Rattle.hn_lab.proofs.Sendings.{IsPlaceFor, order-partitioned, order-insert, placed-insert}
 use Rattle.hn_lab.proofs.senders.Senders.start.Goals as goal
 

@@ -1,7 +1,6 @@
-use Rattle.std.proofs.Common.{◌≡◌, true, false, sym, ◌∙◌}
+use Rattle.hn_base.proofs.Names.{◌≡◌, true, false, sym, ◌∙◌, slice_eq-Decides}
+use Rattle.hn_lab.proofs.Names.{prefix_decided}
 use Rattle.std.specs.Prelude.{Decides}
-use Rattle.std.proofs.lemmas.Slice.Eq.{slice_eq-Decides}
-use Rattle.hn_base.proofs.Prefixes.{prefix_decided}
 use Rattle.hn_lab.proofs.Sendings.{shape_told}
 use Rattle.hn_lab.proofs.senders.Shape.is.Goals.{then-self-other, else-self-other, then-self-other-2, else-self-other-2}
 use Rattle.hn_lab.proofs.senders.Shape.is.Goals as goal

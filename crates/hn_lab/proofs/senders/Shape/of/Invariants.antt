@@ -1,4 +1,4 @@
-use Rattle.std.specs.Prelude.{◌≡◌, map, take}
+use Rattle.hn_lab.proofs.Names.{◌≡◌, map, take}
 use Rattle.hn_lab.proofs.senders.Shape.of.Given as goal
 
 -- the prefixes so far

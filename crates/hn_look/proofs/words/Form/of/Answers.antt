@@ -1,6 +1,5 @@
-use Rattle.std.proofs.Common.{arith}
-use Rattle.std.proofs.lemmas.List.{length-map}
-use Rattle.std.specs.Prelude.{string_bytes}
+use Rattle.hn_base.proofs.Names.{arith, length-map}
+use Rattle.hn_look.proofs.Names.{string_bytes}
 use Rattle.hn_look.proofs.Forms.{word_at, no_plain_form, no_named_form}
 use Rattle.hn_look.proofs.words.Form.of.Goals as goal
 

@@ -1,5 +1,5 @@
-use Rattle.std.proofs.lemmas.Result.{on_ok_weaker}
-use Rattle.hn_node.specs.Steps.{plain_site}
+use Rattle.hn_base.proofs.Names.{on_ok_weaker}
+use Rattle.hn_node.proofs.Names.{plain_site}
 use Rattle.hn_node.proofs.Turned.{arrived}
 use Rattle.hn_node.proofs.node.Node.arrive.Goals as goal
 

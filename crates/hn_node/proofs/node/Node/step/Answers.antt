@@ -1,7 +1,6 @@
-use Rattle.std.proofs.Common.{◌≡◌, ◌≤◌, ◌∷◌, [], ◌++◌, All, length, sym, subst}
-use Rattle.std.proofs.lemmas.Result.{on_ok_weaker}
-use Rattle.hn_rules.specs.declared.done.Outgoing.{Outgoing}
-use Rattle.hn_node.specs.Steps.{plain_site}
+use Rattle.hn_base.proofs.Names.{◌≡◌, ◌≤◌, ◌∷◌, [], ◌++◌, length, sym, subst, on_ok_weaker}
+use Rattle.hn_node.proofs.Names.{Outgoing, plain_site}
+use Rattle.std.proofs.Common.{All}
 use Rattle.hn_node.proofs.Stepped.{of_ok, of_err, entry_of, entered_sends, stepped, cut_step}
 use Rattle.hn_node.proofs.node.Node.step.Goals as goal
 

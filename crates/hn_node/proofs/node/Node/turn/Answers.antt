@@ -1,8 +1,7 @@
-use Rattle.std.proofs.Common.{◌≡◌, ◌∙◌, Err, sym, ap}
-use Rattle.std.proofs.lemmas.Result.{on_ok_weaker, err_from_is_err_and}
+use Rattle.hn_base.proofs.Names.{◌≡◌, ◌∙◌, Err, sym, ap, on_ok_weaker, err_from_is_err_and}
+use Rattle.hn_node.proofs.Names.{plain_site}
 use Rattle.hn_base.proofs.Results.{same_error}
 use Rattle.hn_io.specs.declared.fault.IoFault.{IoFault}
-use Rattle.hn_node.specs.Steps.{plain_site}
 use Rattle.hn_node.proofs.Turned.{cut_taking, cut_arrival, cut_tick, turned}
 use Rattle.hn_node.proofs.node.Node.turn.Goals as goal
 

@@ -1,5 +1,5 @@
-use Rattle.std.proofs.Common.{◌∙◌, arith}
-use Rattle.hn_node.specs.Steps.{plain_site}
+use Rattle.hn_base.proofs.Names.{◌∙◌, arith}
+use Rattle.hn_node.proofs.Names.{plain_site}
 use Rattle.hn_node.proofs.Turned.{turn_more, cut_after}
 use Rattle.hn_node.proofs.node.Node.turns.Goals as goal
 

@@ -1,7 +1,5 @@
-use Rattle.std.proofs.Common.{◌≡◌, ◌≤◌, List}
-use Rattle.hn_node.specs.declared.logged.Logged.{Logged}
-use Rattle.hn_node.specs.Turns.{serving, handed_in, Turns}
-use Rattle.hn_node.specs.Steps.{plain_site, Grows}
+use Rattle.hn_base.proofs.Names.{◌≡◌, ◌≤◌, List}
+use Rattle.hn_node.proofs.Names.{Logged, serving, handed_in, Turns, plain_site, Grows}
 use Rattle.hn_node.proofs.node.Node.turns.Given as goal
 
 abbrev pub invariant-loop : goal.invariant-loop

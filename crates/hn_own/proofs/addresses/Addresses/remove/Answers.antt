@@ -1,7 +1,5 @@
-use Rattle.std.proofs.Common.{◌≡◌, not, rules, tests}
-use Rattle.std.specs.Prelude.{◌==◌}
-use Rattle.std.proofs.lemmas.Fn.{filter_same}
-use Rattle.hn_own.specs.Addresses.{OwnAddress, addresses_without}
+use Rattle.hn_base.proofs.Names.{◌≡◌, not, rules, tests, ◌==◌, filter_same}
+use Rattle.hn_own.proofs.Names.{OwnAddress, addresses_without}
 use Rattle.hn_own.proofs.AddressLists.{AreAddresses-without}
 use Rattle.hn_own.proofs.addresses.Addresses.remove.Goals as goal
 

@@ -1,8 +1,5 @@
-use Rattle.std.proofs.Common.{◌≡◌, ◌<◌, ◌≤◌, ◌++◌, ◌∙◌, List, [], ◌∷◌, get_or, length, take, sym, ap, arith}
-use Rattle.std.specs.List.{cons_option}
-use Rattle.std.proofs.lemmas.List.{append-nil, take_all}
-use Rattle.hn_data.specs.declared.said.AssignedPrefix.{AssignedPrefix}
-use Rattle.hn_own.specs.HeldPairs.{published_in}
+use Rattle.hn_base.proofs.Names.{◌≡◌, ◌<◌, ◌≤◌, ◌++◌, ◌∙◌, List, [], ◌∷◌, get_or, length, take, sym, ap, arith, cons_option, append-nil, take_all}
+use Rattle.hn_own.proofs.Names.{AssignedPrefix, published_in}
 use Rattle.hn_own.proofs.PairLists.{published_in-more, published_in-few, published_in-priority}
 use Rattle.hn_own.proofs.held_pairs.HeldPairs.published.Goals as goal
 use Rattle.hn_own.proofs.held_pairs.HeldPairs.published.Goals.{in-Some+in_ok-push, in_default}

@@ -1,5 +1,5 @@
-use Rattle.std.proofs.Common.{◌≡◌, take}
-use Rattle.hn_own.specs.HeldPairs.{published_in}
+use Rattle.hn_base.proofs.Names.{◌≡◌, take}
+use Rattle.hn_own.proofs.Names.{published_in}
 use Rattle.hn_own.proofs.held_pairs.HeldPairs.published.Given as goal
 
 abbrev pub invariant-loop-c : goal.invariant-loop-c

@@ -1,6 +1,5 @@
-use Rattle.std.proofs.Common.{◌≡◌, ◌∙◌, ap}
-use Rattle.hn_assign.specs.declared.held.Held.{Held}
-use Rattle.hn_own.specs.HeldPairs.{without_private}
+use Rattle.hn_base.proofs.Names.{◌≡◌, ◌∙◌, ap}
+use Rattle.hn_own.proofs.Names.{Held, without_private}
 use Rattle.hn_own.proofs.PostLists.{stays}
 use Rattle.hn_own.proofs.held_pairs.HeldPairs.without_private.Goals as goal
 

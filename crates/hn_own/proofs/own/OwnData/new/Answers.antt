@@ -1,7 +1,5 @@
-use Rattle.std.proofs.Common.{List, ℕ, sym, subst, ◌∙◌, rules}
-use Rattle.std.specs.Prelude.{All}
-use Rattle.hn_data.specs.OwnData.{IsAscendingSet, IsEncoded}
-use Rattle.hn_own.specs.Own.{items_of, pieces_of}
+use Rattle.hn_base.proofs.Names.{List, ℕ, sym, subst, ◌∙◌, rules, All}
+use Rattle.hn_own.proofs.Names.{IsAscendingSet, IsEncoded, items_of, pieces_of}
 use Rattle.hn_own.proofs.OwnPieces.{encodings_encoded}
 use Rattle.hn_own.proofs.OwnSizes.{own_data_short}
 use Rattle.hn_own.proofs.own.OwnData.new.Goals as goal

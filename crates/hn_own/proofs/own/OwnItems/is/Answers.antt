@@ -1,4 +1,4 @@
-use Rattle.std.proofs.Common.{◌≡◌, Decides, refl}
+use Rattle.hn_base.proofs.Names.{◌≡◌, Decides, refl}
 use Rattle.std.proofs.lemmas.Bool.Decides.{Decides-at}
 use Rattle.hn_own.proofs.OwnSame.{caps_decided, link_decided, own_decided, assigned_decided, address_decided, lists_decided, then_next, else_false, items_decided}
 use Rattle.hn_own.proofs.own.OwnItems.is.Goals as goal

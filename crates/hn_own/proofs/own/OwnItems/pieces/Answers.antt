@@ -1,12 +1,5 @@
-use Rattle.std.proofs.Common.{[], ◌∷◌, List, map, subst}
-use Rattle.std.specs.Prelude.{All}
-use Rattle.std.proofs.lemmas.List.Elements.{All-cons, All-nil}
-use Rattle.hn_typed.specs.Written.{IsWritable}
-use Rattle.hn_data.specs.declared.said.PeerLink.{PeerLink}
-use Rattle.hn_data.specs.declared.said.AssignedPrefix.{AssignedPrefix}
-use Rattle.hn_own.specs.declared.own_prefixes.OwnPrefix.{OwnPrefix}
-use Rattle.hn_own.specs.Addresses.{OwnAddress}
-use Rattle.hn_own.specs.Own.{version_item, peer_item, external_items, assigned_item, address_item}
+use Rattle.hn_base.proofs.Names.{[], ◌∷◌, List, map, subst, All, All-cons, All-nil}
+use Rattle.hn_own.proofs.Names.{IsWritable, PeerLink, AssignedPrefix, OwnPrefix, OwnAddress, version_item, peer_item, external_items, assigned_item, address_item}
 use Rattle.hn_own.proofs.OwnPieces.{writable_together}
 use Rattle.hn_own.proofs.own.OwnItems.pieces.Goals as goal
 

@@ -1,9 +1,6 @@
-use Rattle.std.proofs.Common.{◌≡◌, sym, ◌∙◌, rules, tests}
-use Rattle.std.specs.List.{list_any}
-use Rattle.std.proofs.lemmas.Iterator.{YieldsList-from_slice}
+use Rattle.hn_base.proofs.Names.{◌≡◌, sym, ◌∙◌, rules, tests, list_any, YieldsList-from_slice}
+use Rattle.hn_own.proofs.Names.{OwnPrefix, has_ended}
 use Rattle.std.proofs.lemmas.Iterator.Search.{any_from_yields_List}
-use Rattle.hn_own.specs.declared.own_prefixes.OwnPrefix.{OwnPrefix}
-use Rattle.hn_own.specs.Lifetimes.{has_ended}
 use Rattle.hn_own.proofs.PrefixLists.{filter_none_passes}
 use Rattle.hn_own.proofs.own_prefixes.OwnPrefixes.needs_end.Goals as goal
 

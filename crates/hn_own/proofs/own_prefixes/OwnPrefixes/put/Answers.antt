@@ -1,8 +1,5 @@
-use Rattle.std.proofs.Common.{◌≡◌, ◌≤◌, List, true, false, not, length, subst, sym, ap, ◌∙◌, rules, tests}
-use Rattle.std.specs.List.Sorted.{IsPartitionPoint}
-use Rattle.std.proofs.lemmas.List.Sorted.{IsPartitionPoint-from_clause}
-use Rattle.hn_own.specs.declared.own_prefixes.OwnPrefix.{OwnPrefix}
-use Rattle.hn_own.specs.OwnPrefixes.{AreOwnPrefixes, is_prefix, is_before, delegated_without}
+use Rattle.hn_base.proofs.Names.{◌≡◌, ◌≤◌, List, true, false, not, length, subst, sym, ap, ◌∙◌, rules, tests, IsPartitionPoint, IsPartitionPoint-from_clause}
+use Rattle.hn_own.proofs.Names.{OwnPrefix, AreOwnPrefixes, is_prefix, is_before, delegated_without}
 use Rattle.hn_own.proofs.PrefixLists.{IsPlaceFor, place_for, AreOwnPrefixes-partitioned, delegated_with-insert}
 use Rattle.hn_own.proofs.PrefixOrder.{own-filter, own-with}
 use Rattle.hn_own.proofs.own_prefixes.OwnPrefixes.put.Goals as goal

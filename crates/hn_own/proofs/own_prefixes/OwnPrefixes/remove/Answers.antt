@@ -1,6 +1,5 @@
-use Rattle.std.proofs.Common.{not}
-use Rattle.hn_own.specs.declared.own_prefixes.OwnPrefix.{OwnPrefix}
-use Rattle.hn_own.specs.OwnPrefixes.{is_prefix}
+use Rattle.hn_base.proofs.Names.{not}
+use Rattle.hn_own.proofs.Names.{OwnPrefix, is_prefix}
 use Rattle.hn_own.proofs.PrefixOrder.{own-filter}
 use Rattle.hn_own.proofs.own_prefixes.OwnPrefixes.remove.Goals as goal
 

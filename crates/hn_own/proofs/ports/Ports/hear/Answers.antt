@@ -1,7 +1,5 @@
-use Rattle.std.proofs.Common.{◌≡◌, ◌∙◌, true, position, get_or, set, None, Some, sym, ap, subst}
-use Rattle.hn_dncp.specs.Hash.{hashed}
-use Rattle.hn_dncp.specs.declared.port.Port.{Port}
-use Rattle.hn_own.specs.Ports.{ArePorts, is_port, heard_at}
+use Rattle.hn_base.proofs.Names.{◌≡◌, ◌∙◌, true, position, get_or, set, None, Some, sym, ap, subst}
+use Rattle.hn_own.proofs.Names.{hashed, Port, ArePorts, is_port, heard_at}
 use Rattle.hn_own.proofs.PortLists.{heard_at-set, heard_at-none, ArePorts-heard}
 use Rattle.hn_own.proofs.ports.Ports.hear.Goals as goal
 

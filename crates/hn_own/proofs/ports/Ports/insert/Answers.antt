@@ -1,7 +1,5 @@
-use Rattle.std.proofs.Common.{◌≡◌, List, ltb, false, subst, rules, tests}
-use Rattle.std.proofs.lemmas.List.Sorted.{IsPartitionPoint-from_clause}
-use Rattle.hn_dncp.specs.declared.port.Port.{Port}
-use Rattle.hn_own.specs.Ports.{ArePorts, is_attached}
+use Rattle.hn_base.proofs.Names.{◌≡◌, List, ltb, false, subst, rules, tests, IsPartitionPoint-from_clause}
+use Rattle.hn_own.proofs.Names.{Port, ArePorts, is_attached}
 use Rattle.hn_own.proofs.PortLists.{IsPlaceFor, place_for, ArePorts-partitioned, ArePorts-insert, attached-insert}
 use Rattle.hn_own.proofs.ports.Ports.insert.Goals as goal
 

@@ -1,7 +1,5 @@
-use Rattle.std.proofs.Common.{◌≡◌, position, None, sym}
-use Rattle.hn_dncp.specs.declared.port.Port.{Port}
-use Rattle.hn_base.proofs.PassingElements.{map-unpassed}
-use Rattle.hn_own.specs.Ports.{is_port}
+use Rattle.hn_base.proofs.Names.{◌≡◌, position, None, sym}
+use Rattle.hn_own.proofs.Names.{Port, map-unpassed, is_port}
 use Rattle.hn_own.proofs.PortLists.{ArePorts-set, put_port-set}
 use Rattle.hn_own.proofs.ports.Ports.put.Goals as goal
 

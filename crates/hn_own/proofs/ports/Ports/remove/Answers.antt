@@ -1,7 +1,6 @@
-use Rattle.std.proofs.Common.{◌≡◌, not, rules, tests}
-use Rattle.std.proofs.lemmas.Fn.{filter_same}
-use Rattle.hn_dncp.specs.declared.port.Port.{Port}
-use Rattle.hn_own.specs.Ports.{is_port, detached}
+use Rattle.hn_base.proofs.Names.{◌≡◌, not, rules, tests, filter_same}
+use Rattle.hn_own.proofs.Names.{Port, is_port}
+use Rattle.hn_own.specs.Ports.{detached}
 use Rattle.hn_own.proofs.PortLists.{ArePorts-filter}
 use Rattle.hn_own.proofs.ports.Ports.remove.Goals as goal
 

@@ -1,10 +1,7 @@
-use Rattle.std.proofs.Common.{◌≡◌, ◌<◌, ◌+◌, ◌-◌, ◌∙◌, ℕ, List, [], ◌∷◌, ◌++◌, take, drop, set, length, position, None, Some, refl, sym, ap, arith}
+use Rattle.hn_base.proofs.Names.{◌≡◌, ◌<◌, ◌+◌, ◌-◌, ◌∙◌, ℕ, List, [], ◌∷◌, ◌++◌, take, drop, set, length, position, None, Some, refl, sym, ap, arith, take-append-drop, take_more_set, drop-set-lt}
+use Rattle.hn_base.proofs.Names.{length-drop, position-Some}
+use Rattle.hn_own.proofs.Names.{Port, map-unpassed, is_port}
 use Rattle.std.proofs.Math.Seq.{take-length}
-use Rattle.std.proofs.lemmas.List.{take-append-drop, take_more_set, drop-set-lt, length-drop}
-use Rattle.std.proofs.lemmas.List.Quantifiers.{position-Some}
-use Rattle.hn_dncp.specs.declared.port.Port.{Port}
-use Rattle.hn_base.proofs.PassingElements.{map-unpassed}
-use Rattle.hn_own.specs.Ports.{is_port}
 use Rattle.hn_own.proofs.PortLists.{ArePorts-set, put_port-set}
 use Rattle.hn_own.proofs.ports.Ports.with.Goals as goal
 

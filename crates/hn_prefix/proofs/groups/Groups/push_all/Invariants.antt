@@ -1,4 +1,4 @@
-use Rattle.std.proofs.Common.{◌≡◌, ◌++◌, take}
+use Rattle.hn_base.proofs.Names.{◌≡◌, ◌++◌, take}
 use Rattle.hn_prefix.proofs.groups.Groups.push_all.Given as goal
 
 abbrev pub invariant-loop-group : goal.invariant-loop-group

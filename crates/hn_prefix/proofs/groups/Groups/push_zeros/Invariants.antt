@@ -1,4 +1,4 @@
-use Rattle.std.proofs.Common.{◌≡◌, ◌++◌, replicate}
+use Rattle.hn_base.proofs.Names.{◌≡◌, ◌++◌, replicate}
 use Rattle.hn_prefix.proofs.groups.Groups.push_zeros.Given as goal
 
 abbrev pub invariant-loop : goal.invariant-loop

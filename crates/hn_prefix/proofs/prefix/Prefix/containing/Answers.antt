@@ -1,4 +1,4 @@
-use Rattle.std.proofs.Common.{◌-◌, arith}
+use Rattle.hn_base.proofs.Names.{◌-◌, arith}
 use Rattle.hn_prefix.proofs.Masks.{cleared, containing_is_prefix}
 use Rattle.hn_prefix.proofs.prefix.Prefix.containing.Goals as goal
 

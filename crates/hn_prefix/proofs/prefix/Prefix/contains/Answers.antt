@@ -1,6 +1,4 @@
-use Rattle.std.proofs.Common.{◌≡◌, ap, subst, arith}
-use Rattle.std.proofs.lemmas.Bool.Decides.{nat_tests}
-use Rattle.hn_base.specs.Prefix.{PlainPrefix, IsPrefix}
+use Rattle.hn_base.proofs.Names.{◌≡◌, ap, subst, arith, nat_tests, PlainPrefix, IsPrefix}
 use Rattle.hn_prefix.proofs.InsideAndOverlap.{within_range}
 use Rattle.hn_prefix.proofs.prefix.Prefix.contains.Goals as goal
 

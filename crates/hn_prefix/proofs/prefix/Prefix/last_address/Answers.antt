@@ -1,4 +1,4 @@
-use Rattle.std.proofs.Common.{◌≤◌, ◌-◌, arith}
+use Rattle.hn_base.proofs.Names.{◌≤◌, ◌-◌, arith}
 use Rattle.hn_prefix.proofs.InsideAndOverlap.{block_fits}
 use Rattle.hn_prefix.proofs.prefix.Prefix.last_address.Goals as goal
 

@@ -1,6 +1,4 @@
-use Rattle.std.proofs.Common.{◌≡◌, ap, arith}
-use Rattle.std.proofs.lemmas.Bool.Decides.{nat_tests}
-use Rattle.hn_base.specs.Prefix.{PlainPrefix}
+use Rattle.hn_base.proofs.Names.{◌≡◌, ap, arith, nat_tests, PlainPrefix}
 use Rattle.hn_prefix.proofs.InsideAndOverlap.{overlap_range}
 use Rattle.hn_prefix.proofs.prefix.Prefix.overlaps.Goals as goal
 

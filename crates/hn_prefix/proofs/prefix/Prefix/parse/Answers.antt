@@ -1,10 +1,8 @@
-use Rattle.std.proofs.Common.{◌≡◌, ℕ, List, sym, subst, arith}
-use Rattle.hn_base.proofs.NumeralLemmas.{same_number}
+use Rattle.hn_base.proofs.Names.{◌≡◌, ℕ, List, sym, subst, arith, PlainPrefix, IsPrefix}
+use Rattle.hn_prefix.proofs.Names.{same_number, prefix_text_of, IsPrefixText}
 use Rattle.hn_base.proofs.Results.{not_ok, same_ok, ok_with}
 use Rattle.hn_prefix.proofs.ReadLemmas.{prefix_parts, no_slash, plain_prefix}
 use Rattle.hn_prefix.proofs.WriteLemmas.{prefix_text_is_read}
-use Rattle.hn_base.specs.Prefix.{PlainPrefix, IsPrefix}
-use Rattle.hn_prefix.specs.PrefixText.{prefix_text_of, IsPrefixText}
 use Rattle.hn_prefix.proofs.prefix.Prefix.parse.Goals as goal
 
 -- a written form is a read form

@@ -1,5 +1,4 @@
-use Rattle.std.proofs.Common.{◌≡◌, ◌+◌, ◌-◌, ◌*◌, ◌%◌, ◌^◌, ap, subst, arith, ◌∙◌}
-use Rattle.hn_base.specs.Prefix.{PlainPrefix, IsPrefix}
+use Rattle.hn_base.proofs.Names.{◌≡◌, ◌+◌, ◌-◌, ◌*◌, ◌%◌, ◌^◌, ap, subst, arith, ◌∙◌, PlainPrefix, IsPrefix}
 use Rattle.hn_prefix.proofs.SubPrefixAtPlace.{IsPlace, sub_prefix_is_prefix}
 use Rattle.hn_prefix.proofs.prefix.Prefix.sub_prefix.Goals as goal
 

@@ -1,5 +1,4 @@
-use Rattle.std.proofs.Common.{List, ℕ, subst}
-use Rattle.std.specs.Fmt.{HasWritten}
+use Rattle.hn_base.proofs.Names.{List, ℕ, subst, HasWritten}
 use Rattle.hn_prefix.proofs.WriteLemmas.{address_printed, prefix_printed}
 use Rattle.hn_prefix.proofs.text.PrefixTextDisplay.fmt.Goals as goal
 

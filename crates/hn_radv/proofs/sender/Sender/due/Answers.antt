@@ -1,5 +1,4 @@
-use Rattle.std.proofs.Common.{◌≡◌, ◌∙◌, ℕ, Bool, Option, None, Some, length, get_or, is_some, refl, ap}
-use Rattle.std.specs.Prelude.{unwrap_or, if◌then◌else◌}
+use Rattle.hn_base.proofs.Names.{◌≡◌, ◌∙◌, ℕ, Bool, Option, None, Some, length, get_or, is_some, refl, ap, unwrap_or, if◌then◌else◌}
 use Rattle.std.specs.Option.{option_to_list}
 use Rattle.hn_radv.specs.Sender.{sent}
 use Rattle.hn_radv.proofs.sender.Sender.due.Goals as goal

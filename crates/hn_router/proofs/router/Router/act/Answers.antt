@@ -1,15 +1,5 @@
-use Rattle.std.proofs.Common.{◌≡◌, sym, subst}
-use Rattle.std.specs.Prelude.{All}
-use Rattle.std.proofs.lemmas.List.Elements.{All-nil}
-use Rattle.hn_base.specs.Words.{Took}
-use Rattle.hn_rules.specs.declared.done.Done.{Done}
-use Rattle.hn_rules.specs.declared.state.State.{State}
-use Rattle.hn_rules.specs.Done.{nothing}
-use Rattle.hn_rules.specs.Passing.{after_passing}
-use Rattle.hn_rules.specs.Due.{IsNextDue}
-use Rattle.hn_rules.specs.Still.{at_moment}
-use Rattle.hn_router.specs.Act.{plain_event, PlainEvent, Tick, Happened}
-use Rattle.hn_router.specs.Sends.{IsShortSend}
+use Rattle.hn_base.proofs.Names.{◌≡◌, sym, subst, All, All-nil, Took}
+use Rattle.hn_router.proofs.Names.{Done, State, nothing, after_passing, IsNextDue, at_moment, plain_event, PlainEvent, Tick, Happened, IsShortSend}
 use Rattle.hn_router.proofs.Keeping.{passed, next_known}
 use Rattle.hn_router.proofs.router.Router.act.Goals as goal
 

@@ -1,7 +1,5 @@
-use Rattle.std.proofs.Common.{◌≡◌}
-use Rattle.std.proofs.lemmas.Result.{IfOk-weaker}
-use Rattle.hn_advert.specs.Advert.{advert_bytes}
-use Rattle.hn_router.specs.Advertising.{IsAdvertBytes}
+use Rattle.hn_base.proofs.Names.{◌≡◌, IfOk-weaker}
+use Rattle.hn_router.proofs.Names.{advert_bytes, IsAdvertBytes}
 use Rattle.hn_router.proofs.router.Router.advert.Goals as goal
 
 pub returns : goal.returns

@@ -1,7 +1,5 @@
-use Rattle.std.proofs.Common.{◌<◌, subst}
-use Rattle.hn_rules.specs.declared.state.State.{State}
-use Rattle.hn_rules.specs.Due.{IsNextDue}
-use Rattle.hn_rules.specs.Idle.{IsIdleTick}
+use Rattle.hn_base.proofs.Names.{◌<◌, subst}
+use Rattle.hn_router.proofs.Names.{State, IsNextDue, IsIdleTick}
 use Rattle.hn_router.proofs.router.Router.due_at.Goals as goal
 
 pub returns-clause-kept : goal.returns-clause-kept

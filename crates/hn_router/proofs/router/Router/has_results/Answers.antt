@@ -1,6 +1,5 @@
-use Rattle.std.proofs.Common.{◌≤◌, sym, subst}
-use Rattle.hn_rules.specs.declared.state.State.{State}
-use Rattle.hn_router.specs.Act.{plain_event, HasResults}
+use Rattle.hn_base.proofs.Names.{◌≤◌, sym, subst}
+use Rattle.hn_router.proofs.Names.{State, plain_event, HasResults}
 use Rattle.hn_router.proofs.router.Router.has_results.Goals as goal
 
 pub returns : goal.returns

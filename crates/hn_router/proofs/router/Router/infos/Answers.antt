@@ -1,15 +1,5 @@
-use Rattle.std.proofs.Common.{◌≡◌, subst, refl, List, length, Some, slice_get}
-use Rattle.std.specs.Prelude.{All}
-use Rattle.std.proofs.lemmas.Option.{slice_get_read}
-use Rattle.std.proofs.lemmas.List.{take_all}
-use Rattle.hn_assign.specs.declared.assigned.Assigned.{Assigned}
-use Rattle.hn_assign.specs.Facts.{IsInDelegated}
-use Rattle.hn_assign.specs.Pair.{assigned_pair, IsAscending}
-use Rattle.hn_data.specs.View.{PlainView}
-use Rattle.hn_deleg.specs.declared.delegated.Delegated.{Delegated}
-use Rattle.hn_deleg.specs.Used.{AreUsable}
-use Rattle.hn_rules.specs.Seen.{seen_by}
-use Rattle.hn_router.specs.Infos.{IsInfoFrom, HasNoInfo}
+use Rattle.hn_base.proofs.Names.{◌≡◌, subst, refl, List, length, Some, slice_get, All, slice_get_read, take_all}
+use Rattle.hn_router.proofs.Names.{Assigned, IsInDelegated, assigned_pair, IsAscending, PlainView, Delegated, AreUsable, seen_by, IsInfoFrom, HasNoInfo}
 use Rattle.hn_router.proofs.InfoLists.{AreInfosOf, infos_none, infos_more_at, infos_same_at, infos_are}
 use Rattle.hn_router.proofs.router.Router.infos.Goals as goal
 use Rattle.hn_router.proofs.router.Router.infos.Goals.{in-Some+in_ok-push, in_default}

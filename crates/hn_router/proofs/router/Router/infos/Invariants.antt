@@ -1,4 +1,4 @@
-use Rattle.std.proofs.Common.{take}
+use Rattle.hn_base.proofs.Names.{take}
 use Rattle.hn_router.proofs.InfoLists.{AreInfosOf}
 use Rattle.hn_router.proofs.router.Router.infos.Given as goal
 

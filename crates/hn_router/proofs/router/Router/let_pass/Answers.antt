@@ -1,8 +1,5 @@
-use Rattle.std.proofs.Common.{sym, subst, arith}
-use Rattle.hn_rules.specs.declared.state.State.{State}
-use Rattle.hn_rules.specs.Passing.{after_passing}
-use Rattle.hn_rules.specs.Router.{IsRouter}
-use Rattle.hn_router.specs.Kept.{IsKeptRouter}
+use Rattle.hn_base.proofs.Names.{sym, subst, arith}
+use Rattle.hn_router.proofs.Names.{State, after_passing, IsRouter, IsKeptRouter}
 use Rattle.hn_router.proofs.Passings.{either_way}
 use Rattle.hn_router.proofs.router.Router.let_pass.Goals as goal
 

@@ -1,7 +1,5 @@
-use Rattle.std.proofs.Common.{◌≤◌, ◌<◌, ℕ, sym, subst}
-use Rattle.hn_rules.specs.declared.state.State.{State}
-use Rattle.hn_rules.specs.Still.{at_moment}
-use Rattle.hn_router.specs.Kept.{IsKeptRouter}
+use Rattle.hn_base.proofs.Names.{◌≤◌, ◌<◌, ℕ, sym, subst}
+use Rattle.hn_router.proofs.Names.{State, at_moment, IsKeptRouter}
 use Rattle.hn_router.proofs.Keeping.{KeptLaws, kept_later, idle_later}
 use Rattle.hn_router.proofs.router.Router.pass.Goals as goal
 

@@ -1,12 +1,5 @@
-use Rattle.std.proofs.Common.{◌≤◌, sym, subst}
-use Rattle.std.specs.Prelude.{IfSome}
-use Rattle.std.proofs.lemmas.Option.{IfSome_then}
-use Rattle.hn_rules.specs.declared.running.Origin.{Origin}
-use Rattle.hn_rules.specs.declared.state.State.{State}
-use Rattle.hn_rules.specs.Done.{nothing}
-use Rattle.hn_rules.specs.Passing.{after_passing}
-use Rattle.hn_rules.specs.Router.{IsRouter}
-use Rattle.hn_router.specs.Act.{Arrive, Happened}
+use Rattle.hn_base.proofs.Names.{◌≤◌, sym, subst, IfSome_then}
+use Rattle.hn_router.proofs.Names.{IfSome, Origin, State, nothing, after_passing, IsRouter, Arrive, Happened}
 use Rattle.hn_router.proofs.Passings.{arrival_happened}
 use Rattle.hn_router.proofs.router.Router.passing.Goals as goal
 

@@ -1,9 +1,5 @@
-use Rattle.std.proofs.Common.{◌≤◌, sym, subst}
-use Rattle.hn_rules.specs.declared.running.Running.{Running}
-use Rattle.hn_rules.specs.declared.state.State.{State}
-use Rattle.hn_rules.specs.Router.{IsRouter}
-use Rattle.hn_rules.specs.Rules.{begun_at}
-use Rattle.hn_router.specs.Act.{plain_event, IsEvent, Happened}
+use Rattle.hn_base.proofs.Names.{◌≤◌, sym, subst}
+use Rattle.hn_router.proofs.Names.{Running, State, IsRouter, begun_at, plain_event, IsEvent, Happened}
 use Rattle.hn_router.proofs.Keeping.{KeptLaws, kept_after}
 use Rattle.hn_router.proofs.Planning.{has_run, has_happened, took_words}
 use Rattle.hn_router.proofs.router.Router.plan.Goals as goal

@@ -1,5 +1,5 @@
-use Rattle.std.proofs.Common.{◌≡◌, arith}
-use Rattle.hn_rules.specs.Router.{IsRouter}
+use Rattle.hn_base.proofs.Names.{◌≡◌, arith}
+use Rattle.hn_router.proofs.Names.{IsRouter}
 use Rattle.hn_router.proofs.router.Router.sized.Goals as goal
 
 pub invariant_of-result : goal.invariant_of-result

@@ -1,5 +1,5 @@
-use Rattle.std.proofs.Common.{[]}
-use Rattle.hn_typed.specs.Item.{RequestNode}
+use Rattle.hn_base.proofs.Names.{[]}
+use Rattle.hn_rules.proofs.Names.{RequestNode}
 use Rattle.hn_rules.proofs.running.Running.ask_for.Goals as goal
 
 pub returns : goal.returns

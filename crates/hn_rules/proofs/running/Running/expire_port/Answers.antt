@@ -1,5 +1,5 @@
-use Rattle.std.proofs.Common.{subst}
-use Rattle.hn_own.specs.Ports.{ArePorts}
+use Rattle.hn_base.proofs.Names.{subst}
+use Rattle.hn_rules.proofs.Names.{ArePorts}
 use Rattle.hn_rules.proofs.TouchesNothingRead.{none_expire}
 use Rattle.hn_rules.proofs.running.Running.expire_port.Goals as goal
 

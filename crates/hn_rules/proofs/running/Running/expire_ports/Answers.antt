@@ -1,9 +1,6 @@
-use Rattle.std.proofs.Common.{◌∙◌, refl, subst}
-use Rattle.hn_own.specs.Ports.{ArePorts}
+use Rattle.hn_base.proofs.Names.{◌∙◌, refl, subst}
+use Rattle.hn_rules.proofs.Names.{ArePorts, AtPort, IsPortExpiry, each_next}
 use Rattle.hn_rules.proofs.Resting.{none_expire_at}
-use Rattle.hn_rules.specs.Rules.{AtPort}
-use Rattle.hn_rules.specs.Tick.{IsPortExpiry}
-use Rattle.hn_base.proofs.RulesInTurn.{each_next}
 use Rattle.hn_rules.proofs.TouchesNothingRead.{neither}
 use Rattle.hn_rules.proofs.running.Running.expire_ports.Goals as goal
 

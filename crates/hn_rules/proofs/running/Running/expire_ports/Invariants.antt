@@ -1,7 +1,5 @@
-use Rattle.std.proofs.Common.{take, ◌≡◌, false}
-use Rattle.hn_base.specs.Rules.{Each}
-use Rattle.hn_rules.specs.Rules.{AtPort}
-use Rattle.hn_rules.specs.Tick.{IsPortExpiry}
+use Rattle.hn_base.proofs.Names.{take, ◌≡◌, false, Each}
+use Rattle.hn_rules.proofs.Names.{AtPort, IsPortExpiry}
 use Rattle.hn_rules.proofs.running.Running.expire_ports.Given as goal
 
 abbrev pub invariant-loop-at : goal.invariant-loop-at

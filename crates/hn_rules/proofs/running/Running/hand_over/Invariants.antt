@@ -1,4 +1,4 @@
-use Rattle.std.proofs.Common.{◌≡◌, ◌≤◌, ◌+◌, ◌++◌, [], map, length}
+use Rattle.hn_base.proofs.Names.{◌≡◌, ◌≤◌, ◌+◌, ◌++◌, [], map, length}
 use Rattle.std.specs.Prelude.{vec_len, vec_capacity}
 use Rattle.hn_rules.proofs.running.Running.hand_over.Given as goal
 

@@ -1,5 +1,5 @@
-use Rattle.std.proofs.Common.{subst}
-use Rattle.hn_own.specs.Ports.{ArePorts}
+use Rattle.hn_base.proofs.Names.{subst}
+use Rattle.hn_rules.proofs.Names.{ArePorts}
 use Rattle.hn_rules.proofs.Arriving.{ran_node_endpoint, ran_network_request}
 use Rattle.hn_rules.proofs.TouchesNothingRead.{network_request_untouched, request_node_untouched, network_state_untouched}
 use Rattle.hn_rules.proofs.running.Running.item.Goals as goal

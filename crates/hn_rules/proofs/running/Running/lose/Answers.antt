@@ -1,8 +1,5 @@
-use Rattle.std.proofs.Common.{◌∙◌, subst, sym}
-use Rattle.std.proofs.lemmas.Bool.{or_parts}
-use Rattle.std.proofs.lemmas.Result.{on_ok_weaker}
-use Rattle.hn_rules.specs.declared.running.Running.{Running}
-use Rattle.hn_rules.specs.Router.{IsRefreshed}
+use Rattle.hn_base.proofs.Names.{◌∙◌, subst, sym, or_parts, on_ok_weaker}
+use Rattle.hn_rules.proofs.Names.{Running, IsRefreshed}
 use Rattle.hn_rules.proofs.ReachStays.{knows_refreshed, knows_ended}
 use Rattle.hn_rules.proofs.TickParts.{ran_losing}
 use Rattle.hn_rules.proofs.running.Running.lose.Goals as goal

@@ -1,7 +1,5 @@
-use Rattle.std.proofs.Common.{◌≡◌, ◌∙◌, ap, sym, subst}
-use Rattle.hn_dncp.specs.Ask.{may_ask}
-use Rattle.hn_own.specs.Ports.{ArePorts, port_at}
-use Rattle.hn_rules.specs.NetworkState.{network_state}
+use Rattle.hn_base.proofs.Names.{◌≡◌, ◌∙◌, ap, sym, subst}
+use Rattle.hn_rules.proofs.Names.{may_ask, ArePorts, port_at, network_state}
 use Rattle.hn_rules.proofs.AtPorts.{at_port}
 use Rattle.hn_rules.proofs.Resting.{compared_stays}
 use Rattle.hn_rules.proofs.running.Running.network_state.Goals as goal

@@ -1,10 +1,5 @@
-use Rattle.std.proofs.Common.{◌≡◌, ◌∙◌, ap, sym, subst}
-use Rattle.std.proofs.lemmas.Bool.{cond-false}
-use Rattle.hn_dncp.specs.Ask.{may_ask}
-use Rattle.hn_dncp.specs.Peers.{has_peer}
-use Rattle.hn_own.specs.Ports.{ArePorts, port_at}
-use Rattle.std.specs.Prelude.{◌||◌, not}
-use Rattle.hn_rules.specs.NodeEndpoint.{node_endpoint}
+use Rattle.hn_base.proofs.Names.{◌≡◌, ◌∙◌, ap, sym, subst, cond-false, ◌||◌}
+use Rattle.hn_rules.proofs.Names.{may_ask, has_peer, ArePorts, port_at, not, node_endpoint}
 use Rattle.hn_rules.proofs.AtPorts.{at_port}
 use Rattle.hn_rules.proofs.Resting.{named_stays}
 use Rattle.hn_rules.proofs.TouchesNothingRead.{named_untouched}

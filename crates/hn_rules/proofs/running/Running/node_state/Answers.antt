@@ -1,6 +1,5 @@
-use Rattle.std.proofs.Common.{sym, subst, ◌∙◌}
-use Rattle.hn_store.specs.Acceptance.{plain_state}
-use Rattle.hn_rules.specs.KnownReach.{KnowsReach}
+use Rattle.hn_base.proofs.Names.{sym, subst, ◌∙◌}
+use Rattle.hn_rules.proofs.Names.{plain_state, KnowsReach}
 use Rattle.hn_rules.proofs.ReachStays.{taken_leaves}
 use Rattle.hn_rules.proofs.TouchesNothingRead.{node_state_untouched}
 use Rattle.hn_rules.proofs.running.Running.node_state.Goals as goal

@@ -1,6 +1,5 @@
-use Rattle.std.proofs.Common.{◌∙◌, ℕ, List, ap, sym, subst}
-use Rattle.hn_own.specs.Own.{PlainData, IsOwnData}
-use Rattle.hn_rules.specs.KnownReach.{HaveSamePeers}
+use Rattle.hn_base.proofs.Names.{◌∙◌, ℕ, List, ap, sym, subst}
+use Rattle.hn_rules.proofs.Names.{PlainData, IsOwnData, HaveSamePeers}
 use Rattle.hn_rules.proofs.Refreshing.{publishes}
 use Rattle.hn_rules.proofs.running.Running.publish_items.Goals as goal
 

@@ -1,9 +1,5 @@
-use Rattle.std.proofs.Common.{refl, subst}
-use Rattle.std.proofs.lemmas.Result.{on_ok_weaker}
-use Rattle.hn_rules.specs.Rules.{words_of}
-use Rattle.hn_own.specs.Ports.{ArePorts}
-use Rattle.hn_rules.specs.Refresh.{IsRefresh}
-use Rattle.hn_base.proofs.RulesInTurn.{ran_plain}
+use Rattle.hn_base.proofs.Names.{refl, subst, on_ok_weaker}
+use Rattle.hn_rules.proofs.Names.{words_of, ArePorts, IsRefresh, ran_plain}
 use Rattle.hn_rules.proofs.ReachStays.{reach_rests}
 use Rattle.hn_rules.proofs.RefreshChangesNothing.{recent_now, same_refresh}
 use Rattle.hn_rules.proofs.Refreshes.{fresh_refresh}

@@ -1,6 +1,5 @@
-use Rattle.std.proofs.Common.{◌≡◌, refl}
-use Rattle.hn_rules.specs.Requests.{with_state}
-use Rattle.hn_base.proofs.RulesInTurn.{each_next}
+use Rattle.hn_base.proofs.Names.{◌≡◌, refl}
+use Rattle.hn_rules.proofs.Names.{with_state, each_next}
 use Rattle.hn_rules.proofs.running.Running.request_network.Goals as goal
 
 pub loop-id-preserved : goal.loop-id-preserved

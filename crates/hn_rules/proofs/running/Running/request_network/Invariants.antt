@@ -1,9 +1,6 @@
-use Rattle.std.proofs.Common.{◌≡◌, [], take}
-use Rattle.hn_typed.specs.Item.{NetworkState}
+use Rattle.hn_base.proofs.Names.{◌≡◌, [], take, Each}
+use Rattle.hn_rules.proofs.Names.{NetworkState, with_answer, with_state}
 use Rattle.hn_rules.specs.declared.answers.Subject.TheVariants as subject
-use Rattle.hn_rules.specs.Answers.{with_answer}
-use Rattle.hn_rules.specs.Requests.{with_state}
-use Rattle.hn_base.specs.Rules.{Each}
 use Rattle.hn_rules.proofs.running.Running.request_network.Given as goal
 
 abbrev pub invariant-loop-id : goal.invariant-loop-id

@@ -1,5 +1,5 @@
-use Rattle.std.proofs.Common.{[]}
-use Rattle.hn_typed.specs.Item.{RequestNetwork}
+use Rattle.hn_base.proofs.Names.{[]}
+use Rattle.hn_rules.proofs.Names.{RequestNetwork}
 use Rattle.hn_rules.proofs.running.Running.request_state.Goals as goal
 
 pub returns : goal.returns

@@ -1,6 +1,5 @@
-use Rattle.std.proofs.Common.{◌≢◌, subst}
-use Rattle.std.proofs.lemmas.Result.{on_ok_weaker}
-use Rattle.hn_dncp.specs.declared.port.Port.{Port}
+use Rattle.hn_base.proofs.Names.{◌≢◌, subst, on_ok_weaker}
+use Rattle.hn_rules.proofs.Names.{Port}
 use Rattle.hn_rules.proofs.Refreshing.{reset_one}
 use Rattle.hn_rules.proofs.running.Running.reset_port.Goals as goal
 

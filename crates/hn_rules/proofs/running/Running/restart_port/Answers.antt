@@ -1,5 +1,4 @@
-use Rattle.std.proofs.Common.{◌∙◌, sym}
-use Rattle.std.proofs.lemmas.Result.{on_ok_weaker}
+use Rattle.hn_base.proofs.Names.{◌∙◌, sym, on_ok_weaker}
 use Rattle.hn_rules.proofs.Restarting.{restart_one}
 use Rattle.hn_rules.proofs.running.Running.restart_port.Goals as goal
 

@@ -1,7 +1,5 @@
-use Rattle.std.proofs.Common.{refl}
-use Rattle.hn_rules.specs.Rules.{AtPort, words_of}
-use Rattle.hn_rules.specs.Events.{IsPortRestart}
-use Rattle.hn_base.proofs.RulesInTurn.{ran_next}
+use Rattle.hn_base.proofs.Names.{refl}
+use Rattle.hn_rules.proofs.Names.{AtPort, words_of, IsPortRestart, ran_next}
 use Rattle.hn_rules.proofs.running.Running.restart_ports.Goals as goal
 
 pub loop-at-preserved : goal.loop-at-preserved

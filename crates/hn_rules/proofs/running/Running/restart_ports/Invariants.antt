@@ -1,7 +1,5 @@
-use Rattle.std.proofs.Common.{take}
-use Rattle.hn_base.specs.Rules.{Each}
-use Rattle.hn_rules.specs.Rules.{Ran, AtPort}
-use Rattle.hn_rules.specs.Events.{IsPortRestart}
+use Rattle.hn_base.proofs.Names.{take, Each}
+use Rattle.hn_rules.proofs.Names.{Ran, AtPort, IsPortRestart}
 use Rattle.hn_rules.proofs.running.Running.restart_ports.Given as goal
 
 abbrev pub invariant-loop-at : goal.invariant-loop-at

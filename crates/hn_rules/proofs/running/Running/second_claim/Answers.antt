@@ -1,4 +1,4 @@
-use Rattle.std.proofs.lemmas.Result.{on_ok_weaker}
+use Rattle.hn_base.proofs.Names.{on_ok_weaker}
 use Rattle.hn_rules.proofs.Arriving.{ran_second_claim}
 use Rattle.hn_rules.proofs.running.Running.second_claim.Goals as goal
 

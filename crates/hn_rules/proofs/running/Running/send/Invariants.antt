@@ -1,4 +1,4 @@
-use Rattle.std.proofs.Common.{◌≡◌, ◌++◌, map}
+use Rattle.hn_base.proofs.Names.{◌≡◌, ◌++◌, map}
 use Rattle.hn_rules.proofs.running.Running.send.Given as goal
 
 abbrev pub invariant-loop-bytes : goal.invariant-loop-bytes

@@ -1,8 +1,5 @@
-use Rattle.std.proofs.lemmas.Result.{on_ok_weaker}
-use Rattle.hn_rules.specs.Rules.{words_of}
-use Rattle.hn_rules.specs.Assigning.{IsAssigning}
-use Rattle.hn_rules.specs.Refresh.{IsRefresh}
-use Rattle.hn_base.proofs.RulesInTurn.{ran_both}
+use Rattle.hn_base.proofs.Names.{on_ok_weaker}
+use Rattle.hn_rules.proofs.Names.{words_of, IsAssigning, IsRefresh, ran_both}
 use Rattle.hn_rules.proofs.ReachStays.{knows_refreshed, knows_assigned}
 use Rattle.hn_rules.proofs.running.Running.settle.Goals as goal
 

@@ -1,6 +1,5 @@
-use Rattle.std.proofs.Common.{subst, sym}
-use Rattle.hn_store.specs.Acceptance.{plain_state}
-use Rattle.hn_store.specs.Nodes.{IsTable}
+use Rattle.hn_base.proofs.Names.{subst, sym}
+use Rattle.hn_rules.proofs.Names.{plain_state, IsTable}
 use Rattle.hn_rules.proofs.ReachStays.{takes_where}
 use Rattle.hn_rules.proofs.running.Running.take_new.Goals as goal
 

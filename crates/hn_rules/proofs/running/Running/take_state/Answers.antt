@@ -1,4 +1,4 @@
-use Rattle.hn_store.specs.Acceptance.{plain_state}
+use Rattle.hn_rules.proofs.Names.{plain_state}
 use Rattle.hn_rules.proofs.Resting.{refused_state}
 use Rattle.hn_rules.proofs.running.Running.take_state.Goals as goal
 

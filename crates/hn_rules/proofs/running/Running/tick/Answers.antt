@@ -1,4 +1,4 @@
-use Rattle.std.proofs.lemmas.Result.{on_ok_weaker}
+use Rattle.hn_base.proofs.Names.{on_ok_weaker}
 use Rattle.hn_rules.proofs.TickParts.{ran_tick}
 use Rattle.hn_rules.proofs.running.Running.tick.Goals as goal
 

@@ -1,10 +1,5 @@
-use Rattle.std.proofs.Common.{◌∙◌, ℕ, ap, refl, sym, subst, inl, inr}
-use Rattle.hn_dncp.specs.Tick.{tick_sends}
-use Rattle.hn_base.proofs.RulesInTurn.{ran_plain}
-use Rattle.hn_own.specs.Ports.{ArePorts, port_at}
-use Rattle.hn_dncp.specs.Due.{IsPortStill}
-use Rattle.hn_rules.specs.Rules.{AtPort, words_of}
-use Rattle.hn_rules.specs.Tick.{IsPortTick}
+use Rattle.hn_base.proofs.Names.{◌∙◌, ℕ, ap, refl, sym, subst, inl, inr}
+use Rattle.hn_rules.proofs.Names.{tick_sends, ran_plain, ArePorts, port_at, IsPortStill, AtPort, words_of, IsPortTick}
 use Rattle.hn_rules.proofs.AtPorts.{at_port}
 use Rattle.hn_rules.proofs.Resting.{port_rests}
 use Rattle.hn_rules.proofs.Ticking.{port_ticks}

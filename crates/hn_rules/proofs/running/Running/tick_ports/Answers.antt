@@ -1,11 +1,6 @@
-use Rattle.std.proofs.Common.{ℕ, refl, subst}
-use Rattle.std.specs.Prelude.{All}
-use Rattle.hn_dncp.specs.Due.{IsPortStill}
-use Rattle.hn_own.specs.Ports.{ArePorts}
+use Rattle.hn_base.proofs.Names.{ℕ, refl, subst, All}
+use Rattle.hn_rules.proofs.Names.{IsPortStill, ArePorts, AtPort, words_of, IsPortTick, IsPortsTick, ran_plain, ran_next}
 use Rattle.hn_rules.proofs.Resting.{ports_rest}
-use Rattle.hn_rules.specs.Rules.{AtPort, words_of}
-use Rattle.hn_rules.specs.Tick.{IsPortTick, IsPortsTick}
-use Rattle.hn_base.proofs.RulesInTurn.{ran_plain, ran_next}
 use Rattle.hn_rules.proofs.running.Running.tick_ports.Goals as goal
 
 pub returns-then-are_ports_still : goal.returns-then-are_ports_still

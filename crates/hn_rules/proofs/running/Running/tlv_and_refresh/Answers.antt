@@ -1,11 +1,5 @@
-use Rattle.std.proofs.Common.{refl}
-use Rattle.std.proofs.lemmas.Bool.{not-true}
-use Rattle.std.proofs.lemmas.Result.{on_ok_weaker}
-use Rattle.hn_rules.specs.Rules.{words_of}
-use Rattle.hn_tlv.specs.View.{plain}
-use Rattle.hn_rules.specs.Arrival.{IsTlvRule}
-use Rattle.hn_rules.specs.Refresh.{IsRefresh}
-use Rattle.hn_base.proofs.RulesInTurn.{ran_plain, ran_both}
+use Rattle.hn_base.proofs.Names.{refl, not-true, on_ok_weaker}
+use Rattle.hn_rules.proofs.Names.{words_of, plain, IsTlvRule, IsRefresh, ran_plain, ran_both}
 use Rattle.hn_rules.proofs.RefreshChangesNothing.{same_refresh}
 use Rattle.hn_rules.proofs.Refreshes.{refreshed_untouched, fresh_untouched}
 use Rattle.hn_rules.proofs.ReachStays.{knows_touched}

@@ -1,8 +1,6 @@
 use Rattle.std.proofs.lemmas.Result.{IfErr-at_err}
-use Rattle.hn_tlv.specs.Grammar.{IsTlvAt, FirstFault}
-use Rattle.hn_tlv.specs.View.{plain}
-use Rattle.hn_rules.specs.Rules.{Ran}
-use Rattle.hn_rules.specs.Arrival.{IsTlvs}
+use Rattle.hn_rules.proofs.Names.{IsTlvAt, plain, Ran, IsTlvs}
+use Rattle.hn_tlv.specs.Grammar.{FirstFault}
 use Rattle.hn_rules.proofs.Arriving.{read_more}
 use Rattle.hn_rules.proofs.running.Running.tlvs.Goals as goal
 

@@ -1,5 +1,5 @@
-use Rattle.std.proofs.Common.{◌≡◌, ◌-◌, true, length}
-use Rattle.hn_rules.specs.Router.{IsRefreshed, IsFresh}
+use Rattle.hn_base.proofs.Names.{◌≡◌, ◌-◌, true, length}
+use Rattle.hn_rules.proofs.Names.{IsRefreshed, IsFresh}
 use Rattle.hn_rules.proofs.Arriving.{HasRead}
 use Rattle.hn_rules.proofs.running.Running.tlvs.Given as goal
 

@@ -1,5 +1,5 @@
-use Rattle.std.proofs.Common.{◌≡◌, take}
-use Rattle.hn_rules.specs.Rules.{with_words}
+use Rattle.hn_base.proofs.Names.{◌≡◌, take}
+use Rattle.hn_rules.proofs.Names.{with_words}
 use Rattle.hn_rules.proofs.running.Running.took_words.Given as goal
 
 abbrev pub invariant-loop-word : goal.invariant-loop-word

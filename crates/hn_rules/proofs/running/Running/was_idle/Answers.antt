@@ -1,5 +1,5 @@
-use Rattle.std.proofs.Common.{◌↔◌, IsTrue, ℕ, subst}
-use Rattle.hn_rules.specs.Idle.{IsLeft}
+use Rattle.hn_base.proofs.Names.{◌↔◌, IsTrue, ℕ, subst}
+use Rattle.hn_rules.proofs.Names.{IsLeft}
 use Rattle.hn_rules.proofs.TickDoesNothing.{is_idle_where_left}
 use Rattle.hn_rules.proofs.running.Running.was_idle.Goals as goal
 

@@ -1,5 +1,5 @@
-use Rattle.std.proofs.Common.{◌≡◌, ◌++◌, filter, map, nat_lt, take}
-use Rattle.hn_rules.specs.Nodes.{held_entry}
+use Rattle.hn_base.proofs.Names.{◌≡◌, ◌++◌, filter, map, nat_lt, take}
+use Rattle.hn_rules.proofs.Names.{held_entry}
 use Rattle.hn_rules.proofs.state.State.add_lower.Given as goal
 
 abbrev pub invariant-loop-node : goal.invariant-loop-node

@@ -1,10 +1,5 @@
-use Rattle.std.proofs.Common.{◌∙◌, ap, subst, sym, arith}
-use Rattle.std.specs.Prelude.{All}
-use Rattle.hn_data.specs.View.{PlainView, IsNetwork, plain_view}
-use Rattle.hn_deleg.specs.Used.{AreUsable}
-use Rattle.hn_assign.specs.declared.held.Held.{Held}
-use Rattle.hn_assign.specs.Facts.{IsInDelegated, IsAssignedPast, HasOwnPriority}
-use Rattle.hn_rules.specs.Seen.{seen_by}
+use Rattle.hn_base.proofs.Names.{◌∙◌, ap, subst, sym, arith, All}
+use Rattle.hn_rules.proofs.Names.{PlainView, IsNetwork, plain_view, AreUsable, Held, IsInDelegated, IsAssignedPast, HasOwnPriority, seen_by}
 use Rattle.hn_rules.proofs.AssignPairs.{assigned_of, kept_of}
 use Rattle.hn_rules.proofs.state.State.assigned.Goals as goal
 

@@ -1,7 +1,5 @@
-use Rattle.std.proofs.Common.{◌<◌, ◌≤◌, List, length, get_or, sym, subst, arith}
-use Rattle.std.proofs.lemmas.Bool.{iff_false}
-use Rattle.hn_dncp.specs.declared.peers.Neighbour.{Neighbour}
-use Rattle.hn_rules.specs.Tick.{IsExpired}
+use Rattle.hn_base.proofs.Names.{◌<◌, ◌≤◌, List, length, get_or, sym, subst, arith, iff_false}
+use Rattle.hn_rules.proofs.Names.{Neighbour, IsExpired}
 use Rattle.hn_rules.proofs.Without.{LeftSoFar, left-gone, left-stays, left-all}
 use Rattle.hn_rules.proofs.state.State.expire.Goals as goal
 

@@ -1,5 +1,5 @@
-use Rattle.std.proofs.Common.{◌-◌, length}
-use Rattle.hn_rules.specs.Tick.{IsExpired}
+use Rattle.hn_base.proofs.Names.{◌-◌, length}
+use Rattle.hn_rules.proofs.Names.{IsExpired}
 use Rattle.hn_rules.proofs.Without.{LeftSoFar}
 use Rattle.hn_rules.proofs.state.State.expire.Given as goal
 

@@ -1,6 +1,6 @@
-use Rattle.std.proofs.Common.{◌≡◌, ◌+◌, ◌%◌, ◌^◌, ◌≤◌, ℕ, length, true, sym, ◌∙◌, ap, arith, below_more}
+use Rattle.hn_base.proofs.Names.{◌≡◌, ◌+◌, ◌%◌, ◌^◌, ◌≤◌, ℕ, length, true, sym, ◌∙◌, ap, arith, below_more}
+use Rattle.hn_rules.proofs.Names.{is_taken}
 use Rattle.hn_store.specs.declared.table.Table.{Table}
-use Rattle.hn_rules.specs.Claim.{is_taken}
 use Rattle.hn_rules.proofs.FreeIds.{free-after}
 use Rattle.hn_rules.proofs.state.State.first_free.Goals as goal
 

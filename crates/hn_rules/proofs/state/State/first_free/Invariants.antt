@@ -1,5 +1,5 @@
-use Rattle.std.proofs.Common.{◌≡◌, ◌+◌, ◌%◌, ◌^◌, ◌<◌, ℕ, true}
-use Rattle.hn_rules.specs.Claim.{is_taken}
+use Rattle.hn_base.proofs.Names.{◌≡◌, ◌+◌, ◌%◌, ◌^◌, ◌<◌, ℕ, true}
+use Rattle.hn_rules.proofs.Names.{is_taken}
 use Rattle.hn_rules.proofs.state.State.first_free.Given as goal
 
 abbrev pub invariant-loop-taken : goal.invariant-loop-taken

@@ -1,9 +1,5 @@
-use Rattle.std.proofs.Common.{◌≡◌, ◌∙◌, Some, ap, subst}
-use Rattle.std.specs.Prelude.{All}
-use Rattle.hn_dncp.specs.declared.peers.Neighbour.{Neighbour}
-use Rattle.hn_dncp.specs.declared.port.Port.{Port}
-use Rattle.hn_own.specs.Ports.{port_at}
-use Rattle.hn_rules.specs.Tick.{IsExpired}
+use Rattle.hn_base.proofs.Names.{◌≡◌, ◌∙◌, Some, ap, subst, All}
+use Rattle.hn_rules.proofs.Names.{Neighbour, Port, port_at, IsExpired}
 use Rattle.hn_rules.proofs.state.State.has_expired.Goals as goal
 
 pub returns-in-Some : goal.returns-in-Some

@@ -1,9 +1,5 @@
-use Rattle.std.proofs.Common.{◌∙◌, subst}
-use Rattle.std.specs.Prelude.{All}
-use Rattle.std.proofs.lemmas.List.{take_all}
-use Rattle.hn_dncp.specs.declared.peers.Neighbour.{Neighbour}
-use Rattle.hn_dncp.specs.declared.port.Port.{Port}
-use Rattle.hn_rules.specs.Tick.{IsExpired}
+use Rattle.hn_base.proofs.Names.{◌∙◌, subst, All, take_all}
+use Rattle.hn_rules.proofs.Names.{Neighbour, Port, IsExpired}
 use Rattle.hn_rules.proofs.TouchesNothingRead.{all_next}
 use Rattle.hn_rules.proofs.state.State.has_silent_peer.Goals as goal
 

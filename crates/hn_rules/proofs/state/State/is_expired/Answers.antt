@@ -1,6 +1,6 @@
-use Rattle.std.proofs.Common.{◌≡◌, ap, sym, ◌∙◌, ℕ}
+use Rattle.hn_base.proofs.Names.{◌≡◌, ap, sym, ◌∙◌, ℕ}
+use Rattle.hn_rules.proofs.Names.{held}
 use Rattle.hn_timers.specs.KeepAlive.{is_expired}
-use Rattle.hn_store.specs.Nodes.{held}
 use Rattle.hn_rules.proofs.Without.{interval-unique}
 use Rattle.hn_rules.proofs.state.State.is_expired.Goals as goal
 

@@ -1,9 +1,5 @@
-use Rattle.std.proofs.Common.{subst}
-use Rattle.std.specs.Prelude.{All}
-use Rattle.std.proofs.lemmas.Bool.{iff_false}
-use Rattle.std.proofs.lemmas.List.{take_all}
-use Rattle.hn_dncp.specs.declared.peers.Neighbour.{Neighbour}
-use Rattle.hn_rules.specs.Tick.{IsExpired}
+use Rattle.hn_base.proofs.Names.{subst, All, iff_false, take_all}
+use Rattle.hn_rules.proofs.Names.{Neighbour, IsExpired}
 use Rattle.hn_rules.proofs.TouchesNothingRead.{all_next}
 use Rattle.hn_rules.proofs.state.State.is_some_expired.Goals as goal
 

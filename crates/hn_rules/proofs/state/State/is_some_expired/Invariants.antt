@@ -1,6 +1,5 @@
-use Rattle.std.proofs.Common.{take}
-use Rattle.std.specs.Prelude.{All}
-use Rattle.hn_rules.specs.Tick.{IsExpired}
+use Rattle.hn_base.proofs.Names.{take, All}
+use Rattle.hn_rules.proofs.Names.{IsExpired}
 use Rattle.hn_rules.proofs.state.State.is_some_expired.Given as goal
 
 abbrev pub invariant-loop-peer : goal.invariant-loop-peer

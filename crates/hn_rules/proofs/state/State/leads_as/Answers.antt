@@ -1,7 +1,6 @@
-use Rattle.std.proofs.Common.{◌∙◌, ◌<◌, ◌-◌, ◌^◌, List, ℕ, Option, IsSomeAnd, ap, sym, subst}
-use Rattle.hn_store.specs.Nodes.{Nodes, held}
-use Rattle.hn_rules.specs.KnownReach.{LeadsAs}
-use Rattle.hn_rules.specs.Nodes.{age_at}
+use Rattle.hn_base.proofs.Names.{◌∙◌, ◌<◌, ◌-◌, ◌^◌, List, ℕ, Option, ap, sym, subst}
+use Rattle.hn_rules.proofs.Names.{Nodes, held, LeadsAs, age_at}
+use Rattle.std.proofs.Common.{IsSomeAnd}
 use Rattle.hn_rules.proofs.state.State.leads_as.Goals as goal
 
 pub returns-then-age_at-lt-AGE_LIMIT : goal.returns-then-age_at-lt-AGE_LIMIT

@@ -1,5 +1,4 @@
-use Rattle.std.proofs.Common.{take}
-use Rattle.std.specs.Prelude.{All}
+use Rattle.hn_base.proofs.Names.{take, All}
 use Rattle.hn_rules.proofs.RefreshChangesNothing.{LeadsOn}
 use Rattle.hn_rules.proofs.state.State.leads_on.Given as goal
 

@@ -1,7 +1,5 @@
-use Rattle.std.proofs.Common.{◌∙◌, ap, refl, sym, arith}
-use Rattle.std.specs.Option.{option_map}
-use Rattle.hn_base.proofs.Elements.{given_next, passed_next}
-use Rattle.hn_rules.specs.Nodes.{leaf_of, entry_of}
+use Rattle.hn_base.proofs.Names.{◌∙◌, ap, refl, sym, arith, option_map}
+use Rattle.hn_rules.proofs.Names.{given_next, passed_next, leaf_of, entry_of}
 use Rattle.hn_rules.proofs.NodeLists.{mapped_whole}
 use Rattle.hn_rules.proofs.state.State.leaves.Goals.{in-Some+in_ok-push, in_default}
 use Rattle.hn_rules.proofs.state.State.leaves.Goals as goal

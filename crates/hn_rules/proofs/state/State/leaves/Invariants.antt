@@ -1,7 +1,5 @@
-use Rattle.std.specs.List.{filter_map}
-use Rattle.std.specs.Option.{option_map}
-use Rattle.std.proofs.Common.{◌≡◌, take}
-use Rattle.hn_rules.specs.Nodes.{leaf_of, entry_of}
+use Rattle.hn_base.proofs.Names.{filter_map, option_map, ◌≡◌, take}
+use Rattle.hn_rules.proofs.Names.{leaf_of, entry_of}
 use Rattle.hn_rules.proofs.state.State.leaves.Given as goal
 
 abbrev pub invariant-loop-id : goal.invariant-loop-id

@@ -1,11 +1,5 @@
-use Rattle.std.proofs.Common.{◌≡◌, ◌∙◌, ◌≤◌, ◌+◌, ◌-◌, ◌^◌, ℕ, List, ap, subst, arith}
-use Rattle.hn_assign.specs.Due.{IsHeldDue}
-use Rattle.hn_assign.specs.declared.held.Held.{Held}
-use Rattle.hn_own.specs.Due.{IsOwnEnd}
-use Rattle.hn_own.specs.declared.own_prefixes.OwnPrefix.{OwnPrefix}
-use Rattle.hn_store.specs.Due.{IsForgetting}
-use Rattle.hn_store.specs.Nodes.{Nodes}
-use Rattle.hn_base.specs.Sooner.{IsSooner}
+use Rattle.hn_base.proofs.Names.{◌≡◌, ◌∙◌, ◌≤◌, ◌+◌, ◌-◌, ◌^◌, ℕ, List, ap, subst, arith, IsSooner}
+use Rattle.hn_rules.proofs.Names.{IsHeldDue, Held, IsOwnEnd, OwnPrefix, IsForgetting, Nodes}
 use Rattle.hn_base.proofs.NextDue.{sooner_cut}
 use Rattle.hn_rules.proofs.Dues.{kept_due}
 use Rattle.hn_rules.proofs.state.State.next_kept.Goals as goal

@@ -1,6 +1,5 @@
-use Rattle.std.proofs.Common.{ℕ, subst}
-use Rattle.hn_base.specs.Sooner.{IsSooner}
-use Rattle.hn_timers.specs.Due.{IsExpiryMoment}
+use Rattle.hn_base.proofs.Names.{ℕ, subst, IsSooner}
+use Rattle.hn_rules.proofs.Names.{IsExpiryMoment}
 use Rattle.hn_rules.proofs.Dues.{peer_end}
 use Rattle.hn_rules.proofs.state.State.next_of_peer.Goals as goal
 

@@ -1,6 +1,5 @@
-use Rattle.std.proofs.Common.{refl}
-use Rattle.hn_base.proofs.NextDue.{sooner_each}
-use Rattle.hn_rules.specs.Due.{IsPeerEnd}
+use Rattle.hn_base.proofs.Names.{refl}
+use Rattle.hn_rules.proofs.Names.{sooner_each, IsPeerEnd}
 use Rattle.hn_rules.proofs.state.State.next_of_peers.Goals as goal
 
 pub loop-peer-preserved : goal.loop-peer-preserved

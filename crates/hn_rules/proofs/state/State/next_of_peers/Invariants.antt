@@ -1,6 +1,5 @@
-use Rattle.std.proofs.Common.{take}
-use Rattle.hn_base.specs.Sooner.{IsSooner, IsOfElement}
-use Rattle.hn_rules.specs.Due.{IsPeerEnd}
+use Rattle.hn_base.proofs.Names.{take, IsSooner, IsOfElement}
+use Rattle.hn_rules.proofs.Names.{IsPeerEnd}
 use Rattle.hn_rules.proofs.state.State.next_of_peers.Given as goal
 
 abbrev pub invariant-loop-peer : goal.invariant-loop-peer

@@ -1,9 +1,6 @@
-use Rattle.std.proofs.Common.{List, ℕ, subst}
-use Rattle.hn_base.proofs.NextDue.{sooner_both}
-use Rattle.hn_base.specs.Sooner.{IsSooner, IsOfElement}
+use Rattle.hn_base.proofs.Names.{List, ℕ, subst, IsSooner, IsOfElement}
+use Rattle.hn_rules.proofs.Names.{sooner_both, Neighbour, IsPeerEnd}
 use Rattle.hn_dncp.specs.Due.{IsPortDue}
-use Rattle.hn_dncp.specs.declared.peers.Neighbour.{Neighbour}
-use Rattle.hn_rules.specs.Due.{IsPeerEnd}
 use Rattle.hn_rules.proofs.state.State.next_of_port.Goals as goal
 
 pub returns : goal.returns

@@ -1,5 +1,4 @@
-use Rattle.hn_base.proofs.NextDue.{sooner_each}
-use Rattle.hn_rules.specs.Due.{IsDueAtPort}
+use Rattle.hn_rules.proofs.Names.{sooner_each, IsDueAtPort}
 use Rattle.hn_rules.proofs.state.State.next_of_ports.Goals as goal
 
 pub loop-port-preserved : goal.loop-port-preserved

@@ -1,6 +1,5 @@
-use Rattle.std.proofs.Common.{◌≡◌, take}
-use Rattle.hn_base.specs.Sooner.{IsSooner, IsOfElement}
-use Rattle.hn_rules.specs.Due.{IsDueAtPort}
+use Rattle.hn_base.proofs.Names.{◌≡◌, take, IsSooner, IsOfElement}
+use Rattle.hn_rules.proofs.Names.{IsDueAtPort}
 use Rattle.hn_rules.proofs.state.State.next_of_ports.Given as goal
 
 abbrev pub invariant-loop-port : goal.invariant-loop-port

@@ -1,7 +1,5 @@
-use Rattle.std.proofs.Common.{◌∙◌, ℕ, subst}
-use Rattle.hn_base.specs.Sooner.{IsSooner}
-use Rattle.hn_data.specs.View.{plain_view}
-use Rattle.hn_graph.specs.Later.{IsAgeLimit}
+use Rattle.hn_base.proofs.Names.{◌∙◌, ℕ, subst, IsSooner}
+use Rattle.hn_rules.proofs.Names.{plain_view, IsAgeLimit}
 use Rattle.hn_rules.proofs.Dues.{seen_due}
 use Rattle.hn_rules.proofs.state.State.next_seen.Goals as goal
 

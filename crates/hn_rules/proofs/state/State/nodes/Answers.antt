@@ -1,6 +1,5 @@
-use Rattle.std.proofs.Common.{arith, subst}
-use Rattle.std.proofs.lemmas.Grind.{common_steps}
-use Rattle.hn_store.specs.Nodes.{IsTable}
+use Rattle.hn_base.proofs.Names.{arith, subst, common_steps}
+use Rattle.hn_rules.proofs.Names.{IsTable}
 use Rattle.hn_rules.proofs.NodeLists.{nodes_are_network}
 use Rattle.hn_rules.proofs.state.State.nodes.Goals as goal
 

@@ -1,6 +1,5 @@
-use Rattle.std.proofs.Common.{◌∙◌, ap, refl}
-use Rattle.hn_base.proofs.Elements.{given_next, passed_next}
-use Rattle.hn_rules.specs.Nodes.{part_of}
+use Rattle.hn_base.proofs.Names.{◌∙◌, ap, refl}
+use Rattle.hn_rules.proofs.Names.{given_next, passed_next, part_of}
 use Rattle.hn_rules.proofs.state.State.parts.Goals.{in-Some+in_ok-push, in_default}
 use Rattle.hn_rules.proofs.state.State.parts.Goals as goal
 

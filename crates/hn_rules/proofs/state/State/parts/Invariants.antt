@@ -1,6 +1,5 @@
-use Rattle.std.proofs.Common.{◌≡◌, take}
-use Rattle.std.specs.List.{filter_map}
-use Rattle.hn_rules.specs.Nodes.{part_of}
+use Rattle.hn_base.proofs.Names.{◌≡◌, take, filter_map}
+use Rattle.hn_rules.proofs.Names.{part_of}
 use Rattle.hn_rules.proofs.state.State.parts.Given as goal
 
 abbrev pub invariant-loop-id : goal.invariant-loop-id

@@ -1,5 +1,5 @@
-use Rattle.std.proofs.Common.{◌∙◌, sym, ap, subst}
-use Rattle.hn_own.specs.Ports.{ArePorts, port_at}
+use Rattle.hn_base.proofs.Names.{◌∙◌, sym, ap, subst}
+use Rattle.hn_rules.proofs.Names.{ArePorts, port_at}
 use Rattle.hn_rules.proofs.Passings.{IsPassing, heard_passes, other_passes}
 use Rattle.hn_rules.proofs.RefreshChangesNothing.{recent_fresh}
 use Rattle.hn_rules.proofs.Refreshes.{refreshed-later}

@@ -1,4 +1,4 @@
-use Rattle.std.proofs.Common.{rules}
+use Rattle.hn_base.proofs.Names.{rules}
 use Rattle.hn_rules.proofs.NodeLists.{reach_of}
 use Rattle.hn_rules.proofs.state.State.reachable.Goals as goal
 

@@ -1,6 +1,5 @@
-use Rattle.std.proofs.Common.{◌∙◌, ap, refl, sym}
-use Rattle.hn_base.proofs.Elements.{given_next, passed_next}
-use Rattle.hn_rules.specs.Nodes.{entry_of}
+use Rattle.hn_base.proofs.Names.{◌∙◌, ap, refl, sym}
+use Rattle.hn_rules.proofs.Names.{given_next, passed_next, entry_of}
 use Rattle.hn_rules.proofs.state.State.seen.Goals.{in-Some+in_ok-push, in_default}
 use Rattle.hn_rules.proofs.state.State.seen.Goals as goal
 

@@ -1,8 +1,6 @@
-use Rattle.std.proofs.Common.{◌∙◌, ap}
+use Rattle.hn_base.proofs.Names.{◌∙◌, ap}
+use Rattle.hn_rules.proofs.Names.{Port, plain_view, posts_of}
 use Rattle.std.specs.Prelude.{List}
-use Rattle.hn_dncp.specs.declared.port.Port.{Port}
-use Rattle.hn_data.specs.View.{plain_view}
-use Rattle.hn_own.specs.Posts.{posts_of}
 use Rattle.hn_rules.proofs.AssignPairs.{are_asked}
 use Rattle.hn_rules.proofs.state.State.wishes_in.Goals as goal
 

@@ -1,7 +1,5 @@
-use Rattle.std.proofs.Common.{inl, inr, arith}
-use Rattle.std.proofs.lemmas.Bool.{ltb-true, ltb-false}
-use Rattle.std.proofs.lemmas.List.{length-map}
-use Rattle.std.specs.Prelude.{string_bytes}
+use Rattle.hn_base.proofs.Names.{inl, inr, arith, ltb-true, ltb-false, length-map}
+use Rattle.hn_run.proofs.Names.{string_bytes}
 use Rattle.hn_run.proofs.Forms.{word_at, no_plain_form, no_based_form, no_counted_form, no_other_form}
 use Rattle.hn_run.proofs.words.Form.of.Goals as goal
 use Rattle.hn_run.proofs.words.Form.of.Goals.{in_default-via-then-words-lt2, in_default-via-else-words-lt2+else-words-lt3+else-words-lt4+else-words-lt5}

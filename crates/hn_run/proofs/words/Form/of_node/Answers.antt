@@ -1,5 +1,5 @@
-use Rattle.std.proofs.Common.{◌≡◌, ◌-◌, [], ◌∷◌, ◌∙◌, length, take, drop, get_or, map, codes, arith}
-use Rattle.std.specs.Prelude.{string_bytes}
+use Rattle.hn_base.proofs.Names.{◌≡◌, ◌-◌, [], ◌∷◌, ◌∙◌, length, take, drop, get_or, map, codes, arith}
+use Rattle.hn_run.proofs.Names.{string_bytes}
 use Rattle.hn_run.proofs.Forms.{word_at, six_first, same_word}
 use Rattle.hn_run.proofs.words.Form.of_node.Goals as goal
 

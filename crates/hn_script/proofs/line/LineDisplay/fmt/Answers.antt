@@ -1,7 +1,7 @@
 -- The first word, and then the values after it, are the text of the line.
-use Rattle.std.proofs.Common.{◌++◌, refl, sym, ap, ◌∙◌}
-use Rattle.std.proofs.Output.{has_written_append, has_written_of_eq}
-use Rattle.hn_script.specs.Line.{line_spelling, values_text}
+use Rattle.hn_base.proofs.Names.{◌++◌, refl, sym, ap, ◌∙◌, has_written_append}
+use Rattle.hn_script.proofs.Names.{line_spelling, values_text}
+use Rattle.std.proofs.Output.{has_written_of_eq}
 use Rattle.hn_script.proofs.Printed.{line_is}
 use Rattle.hn_script.proofs.line.LineDisplay.fmt.Goals as goal
 

@@ -1,10 +1,7 @@
-use Rattle.std.proofs.Common.{◌∙◌, List, length, not, count_by, sym, ap, subst, rules, tests, arith}
-use Rattle.std.proofs.lemmas.Fn.{filter_same}
-use Rattle.std.proofs.lemmas.Grind.{common_steps}
-use Rattle.hn_store.specs.declared.stored.HeldNode.{HeldNode}
-use Rattle.hn_store.specs.Loss.{is_forgotten, remembered}
-use Rattle.hn_store.specs.Nodes.{Nodes, IsTable}
-use Rattle.hn_store.specs.Young.{AreYoungBefore}
+use Rattle.hn_base.proofs.Names.{◌∙◌, List, length, not, sym, ap, subst, rules, tests, arith, filter_same, common_steps}
+use Rattle.hn_store.proofs.Names.{HeldNode, is_forgotten, Nodes, IsTable, AreYoungBefore}
+use Rattle.std.proofs.Common.{count_by}
+use Rattle.hn_store.specs.Loss.{remembered}
 use Rattle.hn_store.proofs.YoungNodes.{young_filter}
 use Rattle.hn_store.proofs.TableStays.{IsTable-filter}
 use Rattle.hn_store.proofs.Losses.{count_forgotten}

@@ -1,7 +1,5 @@
-use Rattle.std.proofs.Common.{◌∙◌, map, ap, sym, subst}
-use Rattle.std.specs.List.Sorted.{IsStrictlySortedBy}
-use Rattle.hn_base.specs.NodeIds.{node_cmp}
-use Rattle.hn_store.specs.declared.stored.HeldNode.{HeldNode}
+use Rattle.hn_base.proofs.Names.{◌∙◌, map, ap, sym, subst, IsStrictlySortedBy, node_cmp}
+use Rattle.hn_store.proofs.Names.{HeldNode}
 use Rattle.hn_store.proofs.TableStays.{ascending-ids}
 use Rattle.hn_store.proofs.table.Table.ids.Goals as goal
 

@@ -1,5 +1,5 @@
-use Rattle.std.proofs.Common.{◌∙◌, Err, ap, inl, refl}
-use Rattle.hn_tlv.specs.Grammar.{FirstFault}
+use Rattle.hn_base.proofs.Names.{◌∙◌, Err, ap, inl, refl}
+use Rattle.hn_store.proofs.Names.{FirstFault}
 use Rattle.hn_store.proofs.table.Table.keep.Goals as goal
 
 -- data that are refused are no list of TLVs

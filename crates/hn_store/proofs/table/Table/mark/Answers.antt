@@ -1,9 +1,5 @@
-use Rattle.std.proofs.Common.{List, length, map, sym, ap, subst, ◌≡◌, ◌∙◌}
-use Rattle.std.proofs.lemmas.List.{length-map}
-use Rattle.hn_store.specs.declared.stored.HeldNode.{HeldNode}
-use Rattle.hn_store.specs.Nodes.{IsTable}
-use Rattle.hn_store.specs.Loss.{marked_node}
-use Rattle.hn_store.specs.Young.{AreYoungBefore}
+use Rattle.hn_base.proofs.Names.{List, length, map, sym, ap, subst, ◌≡◌, ◌∙◌, length-map}
+use Rattle.hn_store.proofs.Names.{HeldNode, IsTable, marked_node, AreYoungBefore}
 use Rattle.hn_store.proofs.YoungNodes.{young_marked}
 use Rattle.hn_store.proofs.Losses.{IsTable-marked, whole_write}
 use Rattle.hn_store.proofs.table.Table.mark.Goals as goal

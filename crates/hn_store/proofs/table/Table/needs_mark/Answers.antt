@@ -1,8 +1,5 @@
-use Rattle.std.proofs.Common.{◌≡◌, ◌∙◌, sym, ap, arith}
-use Rattle.std.specs.List.{list_any}
-use Rattle.std.proofs.lemmas.Grind.{common_steps}
-use Rattle.hn_store.specs.Loss.{is_to_mark}
-use Rattle.hn_store.specs.Nodes.{Nodes}
+use Rattle.hn_base.proofs.Names.{◌≡◌, ◌∙◌, sym, ap, arith, list_any, common_steps}
+use Rattle.hn_store.proofs.Names.{is_to_mark, Nodes}
 use Rattle.hn_store.proofs.Losses.{marked-unneeded}
 use Rattle.hn_store.proofs.table.Table.needs_mark.Goals as goal
 

@@ -1,5 +1,5 @@
-use Rattle.std.proofs.Common.{ap}
-use Rattle.hn_store.specs.Nodes.{Nodes}
+use Rattle.hn_base.proofs.Names.{ap}
+use Rattle.hn_store.proofs.Names.{Nodes}
 use Rattle.hn_store.proofs.NodePlaces.{held-at, held-none}
 use Rattle.hn_store.proofs.table.Table.next_to.Goals as goal
 

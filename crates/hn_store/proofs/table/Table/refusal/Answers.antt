@@ -1,8 +1,5 @@
-use Rattle.std.proofs.Common.{refl, subst, rules, arith}
-use Rattle.std.specs.Prelude.{Option}
-use Rattle.hn_hash.specs.declared.part.Part.{Part}
-use Rattle.hn_store.specs.declared.state.Took.TheVariants.{Stale, Full, TooLong}
-use Rattle.hn_store.specs.Acceptance.{plain_state, known_of, IsStale, HasNoRoom}
+use Rattle.hn_base.proofs.Names.{refl, subst, rules, arith}
+use Rattle.hn_store.proofs.Names.{Option, Part, Stale, Full, TooLong, plain_state, known_of, IsStale, HasNoRoom}
 use Rattle.hn_store.proofs.Answering.{stale, full, too_long, unchanged}
 use Rattle.hn_store.proofs.table.Table.refusal.Goals as goal
 

@@ -1,12 +1,5 @@
-use Rattle.std.proofs.Common.{◌≡◌, ◌≢◌, ◌≤◌, ◌∙◌, List, set, arith, ap, sym, subst, rules}
-use Rattle.hn_store.specs.declared.state.Took.TheVariants.{Ask, Renumbered}
-use Rattle.hn_store.specs.declared.stored.Stored.{Stored}
-use Rattle.hn_store.specs.declared.stored.HeldNode.{HeldNode}
-use Rattle.hn_store.specs.Nodes.{Nodes, IsTable}
-use Rattle.hn_store.specs.Place.{IsPlaceOf}
-use Rattle.hn_store.specs.Acceptance.{plain_state, held_part, stored_renumbered, entries_after}
-use Rattle.hn_store.specs.AcceptanceParts.{IsOfNumber}
-use Rattle.hn_store.specs.Young.{AreYoungBefore}
+use Rattle.hn_base.proofs.Names.{◌≡◌, ◌≢◌, ◌≤◌, ◌∙◌, List, set, arith, ap, sym, subst, rules}
+use Rattle.hn_store.proofs.Names.{Ask, Renumbered, Stored, HeldNode, Nodes, IsTable, IsPlaceOf, plain_state, held_part, stored_renumbered, entries_after, IsOfNumber, AreYoungBefore}
 use Rattle.hn_store.proofs.YoungNodes.{young_set}
 use Rattle.hn_store.proofs.Changing.{ask_unknown, ask_other, renumber_same, IsTable-there, intact_there, intact_renumbered, after_renumbered}
 use Rattle.hn_store.proofs.table.Table.renumber.Goals as goal

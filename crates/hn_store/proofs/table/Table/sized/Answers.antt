@@ -1,7 +1,5 @@
-use Rattle.std.proofs.Common.{ℕ, List, sym, subst}
-use Rattle.hn_store.specs.declared.stored.HeldNode.{HeldNode}
-use Rattle.hn_store.specs.Nodes.{IsTable}
-use Rattle.hn_store.specs.Young.{AreYoungBefore}
+use Rattle.hn_base.proofs.Names.{ℕ, List, sym, subst}
+use Rattle.hn_store.proofs.Names.{HeldNode, IsTable, AreYoungBefore}
 use Rattle.hn_store.proofs.YoungNodes.{young_none}
 use Rattle.hn_store.proofs.TableStays.{IsTable-none}
 use Rattle.hn_store.proofs.table.Table.sized.Goals as goal

@@ -1,10 +1,5 @@
-use Rattle.std.proofs.Common.{◌≡◌, ◌≢◌, ◌<◌, ◌≤◌, ◌∙◌, ℕ, List, Some, None, length, set, ap, sym, subst, arith}
-use Rattle.std.specs.Prelude.{insert}
-use Rattle.hn_store.specs.declared.stored.HeldNode.{HeldNode}
-use Rattle.hn_store.specs.Nodes.{Nodes, IsTable, held, entry, put}
-use Rattle.hn_store.specs.Place.{IsPlaceOf, IsGapFor}
-use Rattle.hn_store.specs.Acceptance.{plain_state, stored_from}
-use Rattle.hn_store.specs.Young.{AreYoungBefore}
+use Rattle.hn_base.proofs.Names.{◌≡◌, ◌≢◌, ◌<◌, ◌≤◌, ◌∙◌, ℕ, List, Some, None, length, set, ap, sym, subst, arith, insert}
+use Rattle.hn_store.proofs.Names.{HeldNode, Nodes, IsTable, held, entry, put, IsPlaceOf, IsGapFor, plain_state, stored_from, AreYoungBefore}
 use Rattle.hn_store.proofs.NodePlaces.{held-none}
 use Rattle.hn_store.proofs.YoungNodes.{young_set, young_insert}
 use Rattle.hn_store.proofs.TableStays.{IsTable-insert}

@@ -1,6 +1,5 @@
-use Rattle.std.proofs.Common.{◌≡◌, ◌≢◌, refl, rules}
-use Rattle.hn_store.specs.declared.state.Took.TheVariants.{BadHash, Own}
-use Rattle.hn_store.specs.Acceptance.{plain_state, CarriesData}
+use Rattle.hn_base.proofs.Names.{◌≡◌, ◌≢◌, refl, rules}
+use Rattle.hn_store.proofs.Names.{BadHash, Own, plain_state, CarriesData}
 use Rattle.hn_store.proofs.Answering.{unchanged, bad_hash, own_claimed, of_number, of_data_ok}
 use Rattle.hn_store.proofs.table.Table.take.Goals as goal
 

@@ -1,8 +1,6 @@
-use Rattle.std.proofs.Common.{◌≡◌, ◌∙◌, Err, None, ap, sym}
-use Rattle.std.proofs.lemmas.Result.{err_from_is_err_and, on_ok_weaker}
-use Rattle.hn_base.proofs.Results.{same_error}
+use Rattle.hn_base.proofs.Names.{◌≡◌, ◌∙◌, Err, None, ap, sym, err_from_is_err_and, on_ok_weaker}
+use Rattle.hn_sync.proofs.Names.{same_error, ExchangesSoFar, unless_exchange}
 use Rattle.hn_world.specs.declared.event.WorldFault.TheVariants as fault
-use Rattle.hn_sync.specs.Exchange.{ExchangesSoFar, unless_exchange}
 use Rattle.hn_sync.proofs.Delivered.{cut_first, stops_before, cut_before, whole_after, stops_after, cut_after}
 use Rattle.hn_sync.proofs.exchange.WorldExchange.sync.Goals as goal
 

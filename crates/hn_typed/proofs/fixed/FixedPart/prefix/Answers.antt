@@ -1,6 +1,5 @@
-use Rattle.std.proofs.Common.{◌≡◌, ◌∷◌, ◌++◌, [], List, ℕ, take, ap, append_assoc, ◌∙◌}
-use Rattle.std.specs.Int.{w128, to_be_bytes}
-use Rattle.hn_typed.specs.Fields.{bytes_for}
+use Rattle.hn_base.proofs.Names.{◌≡◌, ◌∷◌, ◌++◌, [], List, ℕ, take, ap, append_assoc, ◌∙◌, w128, to_be_bytes}
+use Rattle.hn_typed.proofs.Names.{bytes_for}
 use Rattle.hn_typed.proofs.fixed.FixedPart.prefix.Goals as goal
 
 pub returns-clause-exact : goal.returns-clause-exact

@@ -1,5 +1,4 @@
-use Rattle.std.proofs.Common.{refl}
-use Rattle.std.proofs.lemmas.Bool.{false≢true}
+use Rattle.hn_base.proofs.Names.{refl, false≢true}
 use Rattle.hn_ula.proofs.GeneratedOfNodes.{one_made, none_made}
 use Rattle.hn_ula.proofs.generated.GeneratedOfNode.from_part.Goals as goal
 

@@ -1,7 +1,5 @@
-use Rattle.std.proofs.Common.{Option, sym, ◌∙◌, ap, subst, not, nat_eq, ◌||◌}
-use Rattle.std.specs.Cmp.Lexicographic.{pointwise}
-use Rattle.hn_watch.specs.declared.claim.Claim.{Claim}
-use Rattle.hn_watch.specs.Claim.{IsClaimOf}
+use Rattle.hn_base.proofs.Names.{Option, sym, ◌∙◌, ap, subst, not, pointwise}
+use Rattle.hn_watch.proofs.Names.{nat_eq, ◌||◌, Claim, IsClaimOf}
 use Rattle.hn_watch.proofs.Claims.{claim_more}
 use Rattle.hn_watch.proofs.claim.Claim.after.Goals as goal
 

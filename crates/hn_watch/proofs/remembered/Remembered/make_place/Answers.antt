@@ -1,5 +1,5 @@
-use Rattle.std.proofs.Common.{refl}
-use Rattle.hn_watch.specs.Claim.{number_of}
+use Rattle.hn_base.proofs.Names.{refl}
+use Rattle.hn_watch.proofs.Names.{number_of}
 use Rattle.hn_watch.proofs.remembered.Remembered.make_place.Goals as goal
 
 pub returns-in_err-make_place-clause-same : goal.returns-in_err-make_place-clause-same

@@ -1,6 +1,5 @@
-use Rattle.std.proofs.Common.{take}
-use Rattle.std.proofs.lemmas.List.Elements.{All-more, All-weaker}
-use Rattle.hn_watch.specs.Remembered.{HasRoom}
+use Rattle.hn_base.proofs.Names.{take, All-more, All-weaker}
+use Rattle.hn_watch.proofs.Names.{HasRoom}
 use Rattle.hn_watch.proofs.Steps.{same_after}
 use Rattle.hn_watch.proofs.remembered.Remembered.make_room.Goals as goal
 

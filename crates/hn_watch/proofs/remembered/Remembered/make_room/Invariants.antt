@@ -1,5 +1,5 @@
-use Rattle.std.proofs.Common.{take, All}
-use Rattle.hn_watch.specs.Remembered.{RemembersSame, HasRoom}
+use Rattle.hn_base.proofs.Names.{take}
+use Rattle.hn_watch.proofs.Names.{All, RemembersSame, HasRoom}
 use Rattle.hn_watch.proofs.remembered.Remembered.make_room.Given as goal
 
 abbrev pub invariant-loop-one : goal.invariant-loop-one

@@ -1,11 +1,6 @@
-use Rattle.std.proofs.Common.{◌≡◌, ◌∙◌, [], ◌∷◌, ◌++◌, Option, Some, cond, sym, ap, subst}
-use Rattle.std.specs.Ordering.{is_eq}
-use Rattle.hn_base.specs.NodeIds.{node_cmp}
-use Rattle.hn_watch.specs.declared.claim.Claim.{Claim}
-use Rattle.hn_watch.specs.declared.claim.NodeNumber.{NodeNumber}
-use Rattle.hn_watch.specs.Claim.{number_of, number_cmp, IsClaimOf}
+use Rattle.hn_base.proofs.Names.{◌≡◌, ◌∙◌, [], ◌∷◌, ◌++◌, Option, Some, cond, sym, ap, subst, is_eq, node_cmp}
+use Rattle.hn_watch.proofs.Names.{Claim, NodeNumber, number_of, number_cmp, IsClaimOf, keeping}
 use Rattle.hn_watch.specs.Places.{held}
-use Rattle.hn_watch.specs.Seen.{keeping}
 use Rattle.hn_watch.proofs.Orders.{put_here, put_there, number_total, exact_number}
 use Rattle.hn_watch.proofs.Steps.{kept_by_put}
 use Rattle.hn_watch.proofs.remembered.Remembered.note.Goals as goal

@@ -1,8 +1,5 @@
-use Rattle.std.proofs.Common.{List, [], ◌∷◌, ◌++◌, take, sym, ◌∙◌, ap, subst, append_assoc, get_or}
-use Rattle.std.proofs.lemmas.List.{take_more}
-use Rattle.std.proofs.lemmas.List.Elements.{All-weaker}
-use Rattle.hn_watch.specs.declared.shown.Shown.{Shown}
-use Rattle.hn_watch.specs.Remembered.{Remembers, HasRoom}
+use Rattle.hn_base.proofs.Names.{List, [], ◌∷◌, ◌++◌, take, sym, ◌∙◌, ap, subst, append_assoc, get_or, take_more, All-weaker}
+use Rattle.hn_watch.proofs.Names.{Shown, Remembers, HasRoom}
 use Rattle.hn_watch.proofs.Steps.{remembers_more}
 use Rattle.hn_watch.proofs.remembered.Remembered.note_all.Goals as goal
 

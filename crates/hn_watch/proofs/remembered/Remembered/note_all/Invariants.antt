@@ -1,6 +1,5 @@
-use Rattle.std.proofs.Common.{List, ◌++◌, take, All}
-use Rattle.hn_watch.specs.declared.shown.Shown.{Shown}
-use Rattle.hn_watch.specs.Remembered.{Remembers, HasRoom}
+use Rattle.hn_base.proofs.Names.{List, ◌++◌, take}
+use Rattle.hn_watch.proofs.Names.{All, Shown, Remembers, HasRoom}
 use Rattle.hn_watch.proofs.remembered.Remembered.note_all.Given as goal
 
 abbrev pub invariant-loop-one : goal.invariant-loop-one

@@ -1,12 +1,6 @@
-use Rattle.std.proofs.Common.{◌≡◌, ◌∙◌, List, Some, None, map, Contains, sym, ap, subst, rules}
-use Rattle.std.specs.List.{filter_map}
-use Rattle.std.specs.Option.{option_map}
-use Rattle.std.specs.Map.Iter.{deref_pair}
-use Rattle.std.proofs.lemmas.List.{append-nil}
+use Rattle.hn_base.proofs.Names.{◌≡◌, ◌∙◌, List, Some, None, map, Contains, sym, ap, subst, rules, filter_map, option_map, deref_pair, append-nil}
+use Rattle.hn_watch.proofs.Names.{Seen, AreSeen, seen_of}
 use Rattle.std.proofs.lemmas.Map.Iter.{iter_end}
-use Rattle.hn_watch.specs.declared.seen.Seen.{Seen}
-use Rattle.hn_watch.specs.Seen.{AreSeen}
-use Rattle.hn_watch.specs.Remembered.{seen_of}
 use Rattle.hn_watch.proofs.SeenLemmas.{seen_at, seen_next, are_seen}
 use Rattle.hn_watch.proofs.remembered.Remembered.seen.Goals as goal
 

@@ -1,9 +1,5 @@
-use Rattle.std.proofs.Common.{◌≡◌, map, Contains}
-use Rattle.std.specs.BTreeMap.{IsOrdered}
-use Rattle.std.specs.List.{filter_map}
-use Rattle.std.specs.Map.Iter.{deref_pair}
-use Rattle.hn_watch.specs.declared.seen.Seen.{Seen}
-use Rattle.hn_watch.specs.Claim.{number_cmp}
+use Rattle.hn_base.proofs.Names.{◌≡◌, map, Contains, IsOrdered, filter_map, deref_pair}
+use Rattle.hn_watch.proofs.Names.{Seen, number_cmp}
 use Rattle.hn_watch.proofs.SeenLemmas.{seen_at}
 use Rattle.hn_watch.proofs.remembered.Remembered.seen.Given as goal
 

@@ -1,12 +1,9 @@
-use Rattle.std.proofs.Common.{◌∙◌, ◌<◌, ◌^◌, List, ◌++◌, refl, subst}
-use Rattle.std.proofs.lemmas.Result.{err_from_is_err_and}
-use Rattle.std.proofs.lemmas.List.Elements.{All-append}
+use Rattle.hn_base.proofs.Names.{◌∙◌, ◌<◌, ◌^◌, List, ◌++◌, refl, subst, err_from_is_err_and, All-append}
+use Rattle.hn_watch.proofs.Names.{Shown, Remembers}
 use Rattle.hn_base.proofs.Results.{tells_passed, tells_unfound}
 use Rattle.hn_tlv.specs.declared.fault.TlvFault.{TlvFault}
 use Rattle.hn_tlv.specs.declared.list_fault.ListFault.TheVariants.{Malformed}
 use Rattle.hn_tlv.specs.Grammar.{FirstFault}
-use Rattle.hn_watch.specs.declared.shown.Shown.{Shown}
-use Rattle.hn_watch.specs.Remembered.{Remembers}
 use Rattle.hn_watch.proofs.ShownLemmas.{shown_fit}
 use Rattle.hn_watch.proofs.Steps.{remembers_same}
 use Rattle.hn_watch.proofs.watch.Watch.feed.Goals as goal

@@ -1,4 +1,4 @@
-use Rattle.std.proofs.Common.{◌∙◌, sym}
+use Rattle.hn_base.proofs.Names.{◌∙◌, sym}
 use Rattle.hn_wire.proofs.FirstTaken.{takes_first}
 use Rattle.hn_wire.proofs.mem_wire.MemWireWire.take.Goals as goal
 

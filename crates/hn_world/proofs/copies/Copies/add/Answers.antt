@@ -1,6 +1,5 @@
-use Rattle.std.proofs.Common.{◌≡◌, ◌∙◌, ◌^◌, min, List, length, ap, arith}
-use Rattle.hn_world.specs.declared.copies.MailCopy.{MailCopy}
-use Rattle.hn_world.specs.Waiting.{bytes_of_copies}
+use Rattle.hn_base.proofs.Names.{◌≡◌, ◌∙◌, ◌^◌, min, List, length, ap, arith}
+use Rattle.hn_world.proofs.Names.{MailCopy, bytes_of_copies}
 use Rattle.hn_world.proofs.WaitingCopies.{added}
 use Rattle.hn_world.proofs.copies.Copies.add.Goals as goal
 

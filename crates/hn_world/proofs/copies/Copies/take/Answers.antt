@@ -1,8 +1,5 @@
-use Rattle.std.proofs.Common.{◌≡◌, ◌<◌, ◌∙◌, false, List, Some, length, refl, sym, ap, slice_get, slice_set, arith}
-use Rattle.std.specs.Prelude.{unwrap_or}
-use Rattle.std.proofs.lemmas.Option.{slice_get_read}
-use Rattle.hn_world.specs.declared.copies.MailCopy.{MailCopy}
-use Rattle.hn_world.specs.Waiting.{first_waiting}
+use Rattle.hn_base.proofs.Names.{◌≡◌, ◌<◌, ◌∙◌, false, List, Some, length, refl, sym, ap, slice_get, slice_set, arith, unwrap_or, slice_get_read}
+use Rattle.hn_world.proofs.Names.{MailCopy, first_waiting}
 use Rattle.hn_world.proofs.WaitingCopies.{first_later, stands, waits_not, taken}
 use Rattle.hn_world.proofs.copies.Copies.take.Goals as goal
 

@@ -1,5 +1,5 @@
-use Rattle.std.proofs.Common.{◌≡◌, not, filter, take}
-use Rattle.hn_world.specs.Names.{is_of}
+use Rattle.hn_base.proofs.Names.{◌≡◌, not, filter, take}
+use Rattle.hn_world.proofs.Names.{is_of}
 use Rattle.hn_world.proofs.member.Member.attachments_without.Given as goal
 
 abbrev pub invariant-loop-a : goal.invariant-loop-a

@@ -1,9 +1,7 @@
-use Rattle.std.proofs.Common.{◌≡◌, ◌∙◌, List, Some, ap, sym, slice_get, slice_set}
-use Rattle.hn_rules.specs.declared.state.State.{State}
+use Rattle.hn_base.proofs.Names.{◌≡◌, ◌∙◌, List, Some, ap, sym, slice_get, slice_set}
+use Rattle.hn_world.proofs.Names.{State, Member, with_beside}
 use Rattle.hn_world.specs.declared.routed.Beside.{Beside}
 use Rattle.hn_world.specs.declared.routed.Beside.TheVariants.{Nothing, Attachments, Runs}
-use Rattle.hn_world.specs.declared.member.Member.{Member}
-use Rattle.hn_world.specs.Beside.{with_beside}
 use Rattle.hn_world.proofs.ElementAtPlace.{read_at, one_there}
 use Rattle.hn_world.proofs.member.Members.commit.Goals.{in-Nothing, in-Attachments, in-Runs}
 use Rattle.hn_world.proofs.member.Members.commit.Goals as goal

@@ -1,9 +1,5 @@
-use Rattle.std.proofs.Common.{◌≡◌, ◌∙◌, List, Some, ap, subst, slice_get, slice_set}
-use Rattle.hn_router.specs.Act.{Tick, Happened}
-use Rattle.hn_rules.specs.Done.{nothing}
-use Rattle.hn_rules.specs.Still.{at_moment}
-use Rattle.hn_rules.specs.declared.state.State.{State}
-use Rattle.hn_world.specs.declared.member.Member.{Member}
+use Rattle.hn_base.proofs.Names.{◌≡◌, ◌∙◌, List, Some, ap, subst, slice_get, slice_set}
+use Rattle.hn_world.proofs.Names.{Tick, Happened, nothing, at_moment, State, Member}
 use Rattle.hn_world.proofs.ElementAtPlace.{read_at, one_there}
 use Rattle.hn_world.proofs.member.Members.pass.Goals as goal
 

@@ -1,5 +1,4 @@
-use Rattle.std.proofs.Common.{◌∙◌, sym}
-use Rattle.hn_base.specs.Name.{name_text}
+use Rattle.hn_base.proofs.Names.{◌∙◌, sym, name_text}
 use Rattle.hn_world.proofs.RouterNames.{place_is_first}
 use Rattle.hn_world.proofs.member.Members.place_near.Goals as goal
 

@@ -1,10 +1,6 @@
-use Rattle.std.proofs.Common.{◌≡◌, ◌∙◌, Some, ap, sym}
-use Rattle.std.specs.Option.{option_map}
-use Rattle.hn_router.specs.Act.{plain_event}
-use Rattle.hn_world.specs.Beside.{with_beside}
-use Rattle.hn_world.specs.Routed.{routed, named_by}
+use Rattle.hn_base.proofs.Names.{◌≡◌, ◌∙◌, Some, ap, sym, option_map}
+use Rattle.hn_world.proofs.Names.{plain_event, with_beside, routed, named_by, ok_both}
 use Rattle.hn_world.proofs.DoneAsPlanned.{named_within, acted_step}
-use Rattle.hn_base.proofs.Results.{ok_both}
 use Rattle.hn_world.proofs.parts.Parts.act.Goals as goal
 
 pub beside-requires : goal.beside-requires

@@ -1,7 +1,5 @@
-use Rattle.std.proofs.Common.{◌∙◌, List, [], ◌∷◌, ◌++◌, ap}
-use Rattle.hn_rules.specs.declared.done.Publication.{Publication}
-use Rattle.hn_world.specs.declared.event.Traced.{Traced}
-use Rattle.hn_world.specs.declared.member.Member.{Member}
+use Rattle.hn_base.proofs.Names.{◌∙◌, List, [], ◌∷◌, ◌++◌, ap}
+use Rattle.hn_world.proofs.Names.{Publication, Traced, Member}
 use Rattle.hn_world.proofs.DoneAsPlanned.{begun_step}
 use Rattle.hn_world.proofs.parts.Parts.define_router.Goals as goal
 

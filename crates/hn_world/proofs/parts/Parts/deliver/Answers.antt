@@ -1,9 +1,6 @@
-use Rattle.std.proofs.Common.{◌≡◌, ◌∙◌, ℕ, List, Some, sym, ap, subst}
+use Rattle.hn_base.proofs.Names.{◌≡◌, ◌∙◌, ℕ, List, Some, sym, ap, subst}
+use Rattle.hn_world.proofs.Names.{Arrive, Origin, IsPlanned, copy_at}
 use Rattle.std.specs.Prelude.{option_copied}
-use Rattle.hn_router.specs.Act.{Arrive}
-use Rattle.hn_rules.specs.declared.running.Origin.{Origin}
-use Rattle.hn_world.specs.Planned.{IsPlanned}
-use Rattle.hn_world.specs.Refusal.{copy_at}
 use Rattle.hn_world.proofs.DoneAsPlanned.{receiver_within, stays_within, delivered_step}
 use Rattle.hn_world.proofs.parts.Parts.deliver.Goals as goal
 

@@ -1,4 +1,4 @@
-use Rattle.std.proofs.Common.{◌∙◌, sym}
+use Rattle.hn_base.proofs.Names.{◌∙◌, sym}
 use Rattle.hn_world.proofs.RouterOfEvent.{nowhere_is_nameless}
 use Rattle.hn_world.proofs.parts.Parts.happen.Goals as goal
 

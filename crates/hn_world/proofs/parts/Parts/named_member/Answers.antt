@@ -1,4 +1,4 @@
-use Rattle.std.proofs.Common.{◌∙◌, Some, None, sym}
+use Rattle.hn_base.proofs.Names.{◌∙◌, Some, None, sym}
 use Rattle.hn_world.proofs.RouterOfEvent.{named_member_is}
 use Rattle.hn_world.proofs.parts.Parts.named_member.Goals as goal
 

@@ -1,5 +1,5 @@
-use Rattle.std.proofs.Common.{◌∙◌, List, [], ◌∷◌, ◌++◌, ap}
-use Rattle.hn_world.specs.declared.event.Traced.{Traced}
+use Rattle.hn_base.proofs.Names.{◌∙◌, List, [], ◌∷◌, ◌++◌, ap}
+use Rattle.hn_world.proofs.Names.{Traced}
 use Rattle.hn_world.proofs.DoneAsPlanned.{let_copy_pass_step}
 use Rattle.hn_world.proofs.parts.Parts.pass_copy.Goals as goal
 

@@ -1,12 +1,6 @@
-use Rattle.std.proofs.Common.{◌≡◌, ◌≤◌, ℕ, Option, Some, slice_get, slice_set, sym, subst}
-use Rattle.hn_base.specs.Name.{name_text}
-use Rattle.hn_rules.specs.Done.{nothing}
-use Rattle.hn_rules.specs.Still.{at_moment}
-use Rattle.hn_router.specs.Act.{Tick, Happened}
+use Rattle.hn_base.proofs.Names.{◌≡◌, ◌≤◌, ℕ, Option, Some, slice_get, slice_set, sym, subst, name_text}
+use Rattle.hn_world.proofs.Names.{nothing, at_moment, Tick, Happened, Member, Parts, IsStep}
 use Rattle.hn_world.specs.declared.event.WEvent.TheVariants as event
-use Rattle.hn_world.specs.declared.member.Member.{Member}
-use Rattle.hn_world.specs.declared.parts.Parts.{Parts}
-use Rattle.hn_world.specs.Step.{IsStep}
 use Rattle.hn_world.proofs.DoneAsPlanned.{there, router_within, router_past, passed_step}
 use Rattle.hn_world.proofs.parts.Parts.pass_tick.Goals as goal
 

@@ -1,8 +1,5 @@
-use Rattle.std.proofs.Common.{ℕ, subst}
-use Rattle.hn_router.specs.Act.{plain_event, Happened}
-use Rattle.hn_rules.specs.Done.{nothing}
-use Rattle.hn_rules.specs.Passing.{after_passing}
-use Rattle.hn_rules.specs.Router.{IsRouter}
+use Rattle.hn_base.proofs.Names.{ℕ, subst}
+use Rattle.hn_world.proofs.Names.{plain_event, Happened, nothing, after_passing, IsRouter}
 use Rattle.hn_world.proofs.DoneAsPlanned.{some_both}
 use Rattle.hn_world.proofs.parts.Parts.passing.Goals as goal
 

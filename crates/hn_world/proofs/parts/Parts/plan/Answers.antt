@@ -1,6 +1,5 @@
-use Rattle.std.proofs.Common.{◌≤◌, ℕ, sym, subst}
-use Rattle.hn_base.proofs.Results.{ok_both}
-use Rattle.hn_router.specs.Act.{plain_event, Happened}
+use Rattle.hn_base.proofs.Names.{◌≤◌, ℕ, sym, subst}
+use Rattle.hn_world.proofs.Names.{ok_both, plain_event, Happened}
 use Rattle.hn_world.proofs.DoneAsPlanned.{router_past}
 use Rattle.hn_world.proofs.parts.Parts.plan.Goals as goal
 

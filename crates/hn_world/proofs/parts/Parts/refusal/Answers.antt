@@ -1,7 +1,7 @@
-use Rattle.std.proofs.Common.{◌≡◌, ◌∙◌, ap, sym, subst}
-use Rattle.hn_world.specs.declared.event.WEvent.{WEvent}
+use Rattle.hn_base.proofs.Names.{◌≡◌, ◌∙◌, ap, sym, subst}
+use Rattle.hn_world.proofs.Names.{WEvent, named_member, refusal}
 use Rattle.hn_world.specs.declared.event.WEvent.TheVariants as event
-use Rattle.hn_world.specs.Refusal.{named_member, refusal, refusal_at}
+use Rattle.hn_world.specs.Refusal.{refusal_at}
 use Rattle.hn_world.proofs.parts.Parts.refusal.Goals as goal
 
 pub returns-in-Tick : goal.returns-in-Tick

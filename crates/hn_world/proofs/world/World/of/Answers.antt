@@ -1,6 +1,5 @@
-use Rattle.std.proofs.Common.{◌≡◌, sym, subst}
-use Rattle.hn_world.specs.declared.parts.Parts.{Parts}
-use Rattle.hn_world.specs.Replay.{empty_world, IsReplayed}
+use Rattle.hn_base.proofs.Names.{◌≡◌, sym, subst}
+use Rattle.hn_world.proofs.Names.{Parts, empty_world, IsReplayed}
 use Rattle.hn_world.proofs.OneMoreEvent.{replays_none}
 use Rattle.hn_world.proofs.world.World.of.Goals as goal
 

@@ -1,7 +1,5 @@
-use Rattle.std.proofs.Common.{◌≡◌, ◌∙◌, Vec, Global, ap}
-use Rattle.hn_base.specs.declared.name.Name.{Name}
-use Rattle.hn_world.specs.declared.member.Member.{Member}
-use Rattle.hn_world.specs.declared.parts.Parts.{Parts}
+use Rattle.hn_base.proofs.Names.{◌≡◌, ◌∙◌, Vec, Global, ap}
+use Rattle.hn_world.proofs.Names.{Name, Member, Parts}
 use Rattle.hn_world.proofs.ElementAtPlace.{with_one, without_one}
 use Rattle.hn_world.proofs.world.World.running_names.Goals.{then-member+in_ok-push, else-member}
 use Rattle.hn_world.proofs.world.World.running_names.Goals as goal

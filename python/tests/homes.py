@@ -23,7 +23,10 @@ class Driver:
         self.chance = random.Random(seed)
         self.home = Home(seed=seed)
         self.asked: List[int] = []                       # the numbers of the copies that were judged, in order
-        self.told: List[str] = []                        # what was told on the way
+        self.dropped: List[int] = []                     # of those, the ones that were lost
+        self.delayed: List[int] = []                     # and the ones that came late
+        self.cuts = 0                                    # how many cables were cut
+        self.told: List[str] = []                        # what was told at the end
         self.lost: Dict[Tuple[str, str], int] = {}       # of each direction, how many copies of a hundred are lost
         self.slow: Dict[Tuple[str, str], float] = {}     # of each direction, how many seconds a copy takes at the most
         routers = [self.home.router(f'r{number}') for number in range(self.chance.randint(2, 4))]
@@ -42,10 +45,16 @@ class Driver:
 
     def drop(self, copy: Copy) -> bool:
         self.asked.append(copy.number)
-        return 100 * self.of(copy, 'drop') < self.lost[copy.sender.name, copy.receiver.name]
+        is_lost = 100 * self.of(copy, 'drop') < self.lost[copy.sender.name, copy.receiver.name]
+        if is_lost:
+            self.dropped.append(copy.number)
+        return is_lost
 
     def delay(self, copy: Copy) -> float:
-        return round(self.of(copy, 'delay') * self.slow[copy.sender.name, copy.receiver.name], 3)
+        seconds = round(self.of(copy, 'delay') * self.slow[copy.sender.name, copy.receiver.name], 3)
+        if seconds:
+            self.delayed.append(copy.number)
+        return seconds
 
     def run(self, seconds: float, step: float) -> None:
         self.home.run(seconds, step, drop=self.drop, delay=self.delay)
@@ -55,11 +64,15 @@ class Driver:
         self.home.external(self.home.routers[0], '2001:db8::/56')
         for _ in range(count):
             getattr(self, 'do_' + self.chance.choice(WAYS))(self.chance.choice(self.home.routers))
+            self.look()
         self.do_judged(self.home.routers[0])
         for router in self.home.routers:
             if router.running:
                 self.told += self.home.line(f'audit {router.name}') + self.home.line(f'prefixes {router.name}')
         return self
+
+    def look(self) -> None:
+        """Something has happened."""
 
     def do_judged(self, router: Router) -> None:
         self.run(self.chance.choice((0.25, 1, 2)), self.chance.choice((0.1, 0.1, 0.2, 0.37)))
@@ -70,6 +83,7 @@ class Driver:
     def do_cut(self, router: Router) -> None:
         if router.endpoints and router.running:
             self.home.detach(router, self.chance.choice(sorted(router.endpoints)))
+            self.cuts += 1
 
     def do_mend(self, router: Router) -> None:
         free = [link for link in self.home.links.values() if link not in router.endpoints.values()]
@@ -97,6 +111,31 @@ class Driver:
         if router.endpoints and router.running:
             data = self.chance.choice((b'', bytes.fromhex('00030008000000090000000100010000'), bytes(3)))
             self.home.inject(router, self.chance.choice(sorted(router.endpoints)), data)
+
+
+class Witness(Driver):
+    """The same choices. After each it asks reports, which leave no line, and remembers the transcript until then."""
+
+    def __init__(self, seed: int) -> None:
+        super().__init__(seed)
+        self.seen: List[Tuple[int, str, List[str], List[str]]] = []    # how many lines, their transcript, reports, answers
+
+    def look(self) -> None:
+        reports = [f'{word} {router.name}' for router in self.home.routers for word in ('show', 'audit', 'prefixes')
+                   if router.running or word == 'show']
+        answers = [line + '\n' for report in reports for line in self.home.ask(report)]
+        self.seen.append((len(self.home.play.lines), self.home.transcript, reports, answers))
+
+    def witnessed(self) -> Tuple[str, str]:
+        """The script with the reports as lines where they were asked; and what has to be written for it."""
+        lines, text, script, at, written = list(self.home.play.lines), self.home.transcript, '', 0, 0
+        expected = ''
+        for count, front, reports, answers in self.seen:
+            assert text.startswith(front) and len(front) >= written, 'an earlier transcript is no front of the last'
+            script += '\n'.join([*lines[at:count], *reports, ''])
+            expected += front[written:] + ''.join(answers)
+            at, written = count, len(front)
+        return script + '\n'.join([*lines[at:], '']), expected + text[written:]
 
 
 class SlowDriver(Driver):

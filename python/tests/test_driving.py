@@ -1,44 +1,28 @@
 """What a home does by hand is what its script says."""
-import os
 import re
 import unittest
+from typing import Tuple
 
 from rulercress import Home, many
 
-from . import homes
+from . import driven, homes
 
-HOMES = int(os.environ.get('RULERCRESS_HOMES', '3'))      # how many random homes are tried
-FIRST = int(os.environ.get('RULERCRESS_FIRST', '1'))
-DRIVE = 10                                                 # things that happen in each
+SEEDS = range(1, 13)
 
 
-def leaves_its_script(seed: int) -> int:
-    """A home's script is played to its transcript, and what was told on the way stands in it. How many copies were judged."""
-    driven = homes.Driver(seed).go(DRIVE)
-    text = homes.played(driven.home.script)
-    assert text == driven.home.transcript, 'another transcript'
-    assert not re.search('^refused', text, re.MULTILINE), text[-40:]
-    assert text.endswith(''.join(line + '\n' for line in driven.told)), 'what was told at the end is not written there'
-    assert len(set(driven.asked)) == len(driven.asked), 'a copy was judged twice'
-    return len(driven.asked)
-
-
-def is_driven_line_by_line(seed: int) -> int:
-    """A run of copies that are judged is the same as one in which each line is played, and then asked what waits."""
-    quick, slow = homes.Driver(seed).go(DRIVE), homes.SlowDriver(seed).go(DRIVE)
-    assert quick.home.script == slow.home.script, 'another script'
-    assert quick.asked == slow.asked, 'other copies were asked of, or in another order'
-    assert quick.told == slow.told, 'other reports'
-    return len(quick.asked)
+def what_happened(seed: int) -> Tuple[int, int, int, int]:
+    """How many copies of a home were judged, lost and delayed, and how many cables cut. Its script says so, too, and it is
+    as one that is driven line by line."""
+    home = driven.check_script(seed)
+    driven.check_line_by_line(home)
+    return len(home.asked), len(home.dropped), len(home.delayed), home.cuts
 
 
 class Driving(unittest.TestCase):
 
     def test_each_home_leaves_its_script(self) -> None:
-        self.assertGreater(sum(many(leaves_its_script, range(FIRST, FIRST + 4 * HOMES))), 0)
-
-    def test_homes_are_driven_as_line_by_line(self) -> None:
-        self.assertGreater(sum(many(is_driven_line_by_line, range(FIRST, FIRST + HOMES))), 0)
+        for count in map(sum, zip(*many(what_happened, SEEDS))):
+            self.assertGreater(count, 5)
 
     def test_loss_in_one_direction(self) -> None:
         home = Home(seed=7)

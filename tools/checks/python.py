@@ -17,6 +17,7 @@ OLDEST = (3, 9)
 DEBIANS = '/usr/bin/python3'
 PYTEST = ['-m', 'pytest', '-q', '-p', 'no:cacheprovider']
 UNITTEST = ['-m', 'unittest', 'discover', '-t', '.', '-s', 'tests']
+DRIVEN = ['-m', 'tests.driven', '-n', '20', '--from', '1001']
 ABOUT = 'import sys; print("%d.%d.%d" % sys.version_info[:3])'
 CALLS = 'import test_a_home as t; [getattr(t, name)() for name in dir(t) if name.startswith("test_")]'
 FOREIGN = ('PYTHONPATH', 'PYTHONHOME', 'PYTHONSTARTUP')  # what an environment of its own must not see
@@ -87,12 +88,15 @@ def pythons():
 
 
 def check_tests(known):
-    """The tests of the package, by pytest where a Python has one, else by unittest."""
+    """The tests of the package, by pytest where a Python has one, else by unittest; and random homes that are driven by hand,
+    each held to the script that it leaves."""
     python = next((path for path in known.values() if has(path, 'pytest')), None)
     text = output([python, *PYTEST] if python else [sys.executable, *UNITTEST], FOLDER)
     counted = re.search(r'(\d+) passed|Ran (\d+) tests', text)
     must(counted, f'no test is told: {text[-90:]}')
-    return f'{counted[1] or counted[2]} tests by {"pytest" if python else "unittest, since there is no pytest"}'
+    driven = output([python or sys.executable, *DRIVEN], FOLDER)
+    must_be([driven], ['0 of 20 seeds'], ' '.join(DRIVEN))
+    return f'20 homes driven by hand, {counted[1] or counted[2]} tests by {"pytest" if python else "unittest, since there is no pytest"}'
 
 
 def check_installed(python, folder):
@@ -118,7 +122,7 @@ def check_installed(python, folder):
 
 
 def check_python(folder):
-    """Held to: the texts are as above; the tests pass; and each Python installs the package, and passes the example's tests."""
+    """Held to: the texts are as above; the tests pass; the script that a home leaves is played to its transcript; and each Python installs the package, and passes the example's tests."""
     need_look()
     texts, codes, known = check_texts(), check_tables(), pythons()
     told = [f'{texts} files for Python 3.9, {codes} codes, {check_tests(known)}']

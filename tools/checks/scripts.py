@@ -11,7 +11,7 @@ import subprocess
 import common
 import items
 from checks import samples
-from checks.helpers import SEED, is_static, lines_of, looks_in, must, must_be, need, short
+from checks.helpers import SEED, is_static, lines_of, looks_in, must, must_be, need, run, short
 
 MEETING = ['link lan', 'router A 00000001', 'router B 00000002', 'attach A 1 lan', 'attach B 1 lan', 'external A 2001:db8::/56 7200 3600']
 REPORTS = ('show', 'hash', 'used', 'prefixes', 'elect', 'advert', 'audit', 'compare', 'mail', 'addresses', 'addressed', 'ulas')
@@ -205,6 +205,10 @@ def check_seeds(folder):
     must_be(lines_of('seeds', '-n', '3', plain, 'no such text', status=1), ['0 of 3 seeds'], 'seeds')
     must_be(lines_of('seeds', '--from', '40', '-n', '20', path, 'kitchen .*number=4')[:-1],
             [line for line in expected if 40 <= int(line.split()[1][:-1]) < 60], 'seeds --from')
+    parts = [lines_of('seeds', '-n', '40', '--shard', f'{part}/3', path, 'kitchen .*number=4') for part in (1, 2, 3)]
+    must_be(sorted((line for part in parts for line in part[:-1]), key=lambda line: int(line.split()[1][:-1])),
+            [line for line in expected if int(line.split()[1][:-1]) <= 40], 'seeds --shard')
+    must_be([part[-1].split(' of ')[1] for part in parts], ['14 seeds', '13 seeds', '13 seeds'], 'seeds --shard')
     return f'100 seeds, of which {len(expected)} show the pattern, {check_moments(folder)} moments'
 
 
@@ -223,6 +227,36 @@ def check_moments(folder):
     must_be(lines_of('seeds', '-n', '1', '--when', 'audit B', path), ['seed 1: 9000', '1 of 1 seeds: least 9000, median 9000, most 9000 ms'], 'seeds --when')
     must_be(lines_of('seeds', '-n', '2', '--when', 'nothing', path, status=1), ['0 of 2 seeds'], 'seeds --when')
     return len(expected)
+
+
+# how-often-settled
+
+def check_how_often(folder):
+    """Held to: counts of a home that the check plays itself; the texts of parts, joined, are the text of the whole."""
+    whole = lines_of('how-often-settled', '-n', '3')
+    paths = [os.path.join(folder, f'part{part}') for part in (1, 2)]
+    for part, path in enumerate(paths, 1):
+        with open(path, 'w', encoding='ascii') as file:
+            file.write('\n'.join([*lines_of('how-often-settled', '-n', '3', '--shard', f'{part}/2'), '']))
+    must_be(lines_of('how-often-settled', '--join', *reversed(paths)), whole, 'how-often-settled --join')
+    for given, word in (([paths[0], paths[0]], 'as a file before it'), ([paths[0]], 'no file has loss 0 and seed 2')):
+        status, text, messages = run('how-often-settled', '--join', *given)
+        must(status == 1 and not text and word in messages, f'how-often-settled --join {given}: status {status}, {messages}')
+    rows = {tuple(map(int, line.split()[:2])): line.split()[2:5] for line in whole if re.match(r' *\d+ +\d+ ', line)}
+    for loss, seed in ((0, 1), (20, 2), (40, 3)):
+        said = common.play(tree_looked_at(loss, seed))
+        counted = [said.count(f'audit r1 {text}') for text in ('settled=yes quiet=yes sound=yes', 'settled=yes quiet=no', 'settled=no')]
+        must_be(rows[loss, seed], list(map(str, counted)), f'how-often-settled with loss {loss} and seed {seed}')
+    return f'{len(rows)} homes, of which 3 are played by the check, and two parts joined'
+
+
+def tree_looked_at(loss, seed):
+    """The script of a tree of twenty routers, as a soak has it, that is looked at from a minute on."""
+    soak = ['hncp 1', f'seed {seed}', f'loss {loss}', *(f'link l{each}' for each in range(1, 21))]
+    for each in range(1, 21):
+        soak += [f'router r{each} {each:08x}', *([f'attach r{each} 1 l{each // 2}'] if each > 1 else []), f'attach r{each} 2 l{each}']
+    soak.append('external r1 2001:db8::/56 7200 3600')
+    return soak + [text for second in range(60, 160) for text in (f'run {second}000 100', 'audit r1')]
 
 
 # explain

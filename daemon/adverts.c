@@ -5,10 +5,10 @@
 #include <netinet/icmp6.h>
 #include <string.h>
 
-/* In milliseconds (RFC 4861, sections 6.2.1 and 10). After each of the first FIRST_ADVERTS the next one comes after
- * FIRST_INTERVAL. Later ones come after LEAST_INTERVAL, and up to MORE_INTERVAL more. There are never two within
- * LEAST_BETWEEN. A solicitation is answered within LONGEST_DELAY. A link on which there is nothing to advertise is given
- * QUIET before the first one: hosts that still have a route of an earlier daemon keep it so long. */
+/* In milliseconds (RFC 4861, sections 6.2.1, 6.2.4 and 10). After each of the first FIRST_ADVERTS at the start, and after a
+ * change, the next one comes after FIRST_INTERVAL. Later ones come after LEAST_INTERVAL, and up to MORE_INTERVAL more. There
+ * are never two within LEAST_BETWEEN. A solicitation is answered within LONGEST_DELAY. A link on which there is nothing to
+ * advertise is given QUIET before the first one: hosts that still have a route of an earlier daemon keep it so long. */
 enum { FIRST_ADVERTS = 3, FIRST_INTERVAL = 16000, LEAST_INTERVAL = 198000, MORE_INTERVAL = 402000 };
 enum { LEAST_BETWEEN = 3000, LONGEST_DELAY = 500, QUIET = 15000 };
 
@@ -16,8 +16,9 @@ enum { LEAST_BETWEEN = 3000, LONGEST_DELAY = 500, QUIET = 15000 };
  * which is three times the longest interval (RFC 8106, section 5.1). */
 enum { MOST_PREFERRED = 2700, MOST_VALID = 5400, SERVER_LIFETIME = 1800 };
 
-/* Bytes: of the head, of a Prefix Information, and of the most that one packet takes: 1,280 less the header of IPv6. */
-enum { HEAD = 16, INFO = 32, MOST_PACKET = 1240 };
+/* Bytes: of the head, of a Prefix Information, and of the most that one packet takes, as much as the library gives at most:
+ * 1,280 less the header of IPv6 and one of 8 bytes. */
+enum { HEAD = 16, INFO = 32, MOST_PACKET = 1232 };
 
 /* Kinds of options, and how many prefixes of earlier daemons are kept. */
 enum { SOURCE = 1, PREFIX = 3, SERVERS = 25, MOST_DEPARTED = 64 };
@@ -69,6 +70,14 @@ static void hasten(struct advertising *it, uint64_t delay)
     it->next = earlier(it->next, at < it->earliest ? it->earliest : at);
 }
 
+/* What is to be advertised has changed: it is told as soon as may be, and then as often as at the start, since an
+ * advertisement may be lost. */
+static void begin_anew(struct advertising *it)
+{
+    it->count = 0;
+    hasten(it, 0);
+}
+
 /* A prefix that an earlier daemon had on a link: hosts are told that it is not preferred any more. */
 void remember_departed(struct link *link, const struct prefix *prefix)
 {
@@ -77,7 +86,7 @@ void remember_departed(struct link *link, const struct prefix *prefix)
     departed[departed_count].link = link;
     departed[departed_count].prefix = *prefix;
     departed[departed_count++].ends = now() + MOST_VALID * 1000;
-    hasten(&link->adverts, 0);
+    begin_anew(&link->adverts);
 }
 
 /* Looks at what is to be advertised on a link now. Whether it has changed. Of its lifetimes only this counts: whether a
@@ -98,12 +107,12 @@ static bool look(struct link *link)
     return true;
 }
 
-/* What has changed is advertised as soon as may be. */
+/* Looks whether what is to be advertised has changed. */
 void watch_adverts(void)
 {
     for (struct link *link = links; link < links + link_count; link++) {
         if (is_advertising(link) && look(link))
-            hasten(&link->adverts, 0);
+            begin_anew(&link->adverts);
     }
 }
 
@@ -228,6 +237,15 @@ static unsigned send_parts(const struct link *link, size_t length)
     return parts;
 }
 
+/* Milliseconds until the next advertisement. Where the last one had no room for one more prefix, departed ones may have been
+ * left out, which hosts would hold for preferred so long: so those after a change come as near to each other as may be. */
+static uint64_t interval(const struct advertising *it, bool is_full)
+{
+    if (it->count < FIRST_ADVERTS)
+        return is_full ? LEAST_BETWEEN : FIRST_INTERVAL;
+    return LEAST_INTERVAL + draw_number(MORE_INTERVAL);
+}
+
 /* Sends an advertisement on a link, as of now. One that fails is told, and tried again later; but not the last one. */
 static void advertise(struct link *link)
 {
@@ -238,6 +256,7 @@ static void advertise(struct link *link)
     if (!tick() || !is_done(hn_router_advertise(&router, link->endpoint, &length, room, sizeof room - MOST_DEPARTED * INFO - 64),
                             "advertise"))
         return;
+    bool is_full = length + INFO > MOST_PACKET;
     look(link);
     lower(length);
     length = add_options(link, add_departed(link, length));
@@ -247,7 +266,7 @@ static void advertise(struct link *link)
     say(OF_ADVERT, "advertised %s bytes=%zu%s%s", link->name, length, parts > 1 ? " in parts" : "", is_ending ? " last" : "");
     it->has_sent = true;
     it->earliest = now() + LEAST_BETWEEN;
-    it->next = now() + (it->count < FIRST_ADVERTS ? FIRST_INTERVAL : LEAST_INTERVAL + draw_number(MORE_INTERVAL));
+    it->next = now() + interval(it, is_full);
     it->count += it->count < FIRST_ADVERTS;
 }
 

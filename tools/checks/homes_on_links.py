@@ -39,7 +39,7 @@ AT_REST, FLOODED = 3000, 50000    # kB of memory at most
 FLOOD = 50000, 5                  # datagrams a second, and seconds
 SHOWN = 1500                      # commands that write to the log that nobody reads: 200 kB or more
 STRANGER = 20                     # seconds for which each set of prefixes is told
-SEVERAL, MOST_ADVERT = 500, 1280  # bytes of an advertisement of more prefixes than a link has, and of any
+SEVERAL, MOST_ADVERT = 500, 1272  # bytes, with the header of IPv6: of an advertisement of more prefixes than a link has; of any
 SIZES = 3, 4, 5, 6
 ONE_FLOOD = threading.Lock()      # floods take a processor each, so they come one by one
 
@@ -279,12 +279,15 @@ class Home:
 
     def must_rest(self, name, begun=None):
         """The home comes to rest, and each host reaches each other."""
-        begun, until = begun or time.monotonic(), time.monotonic() + SETTLES
+        begun, until, told = begun or time.monotonic(), time.monotonic() + SETTLES, None
         while True:
             seen = self.look()
             fault = self.fault(seen) or (self.tools.babel and self.unreached(seen))
             if not fault:
                 break
+            if fault != told and os.environ.get('HND_LOGS'):
+                print(f'{self.name}: {name}, {time.monotonic() - begun:.1f} s: {fault}', file=sys.stderr, flush=True)
+            told = fault
             must(time.monotonic() < until, f'{self.name}, {name}: {fault}{self.last_words()}')
             time.sleep(0.5)
         self.moments.append(Moment(name, time.monotonic() - begun))

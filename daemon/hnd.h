@@ -80,7 +80,7 @@ struct arrival {
 /* What the options say. */
 struct settings {
     uint32_t id;
-    bool advertises, routes, forwards, answers_any_port, keeps_lifetimes, to_syslog;
+    bool advertises, routes, forwards, answers_own_port, keeps_lifetimes, to_syslog;
     const char *control, *command, *user;
     uint64_t ends;
     struct delegation uplinks[MOST_PREFIXES];

@@ -37,7 +37,7 @@ static bool take_flag(int option)
     case 'a': return settings.advertises = true;
     case 'f': return settings.forwards = true;
     case 'L': return settings.keeps_lifetimes = true;
-    case 'P': return settings.answers_any_port = true;
+    case 'P': return settings.answers_own_port = true;
     case 'r': return settings.routes = true;
     case 's': return settings.to_syslog = true;
     default: return false;

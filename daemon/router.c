@@ -66,7 +66,7 @@ static void send_one(const hn_sent *sent, size_t count, uint64_t at)
     struct link *link = link_of_endpoint(sent->endpoint);
     if (sent->unicast && is_request(count))
         at = spaced(link, at);
-    if (sent->unicast && sent->port != PORT && !settings.answers_any_port)
+    if (sent->unicast && sent->port != PORT && settings.answers_own_port)
         say(OF_SEND, "unsent %s bytes=%zu why=\"it is for port %u\"", link->name, count, sent->port);
     else if (sent->unicast && at > now())
         hold(sent, at, room, count);

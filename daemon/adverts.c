@@ -8,7 +8,11 @@
 /* In milliseconds (RFC 4861, sections 6.2.1, 6.2.4 and 10). After each of the first FIRST_ADVERTS at the start, and after a
  * change, the next one comes after FIRST_INTERVAL. Later ones come after LEAST_INTERVAL, and up to MORE_INTERVAL more. There
  * are never two within LEAST_BETWEEN. A solicitation is answered within LONGEST_DELAY. A link on which there is nothing to
- * advertise is given QUIET before the first one: hosts that still have a route of an earlier daemon keep it so long. */
+ * advertise is given QUIET before the first one: hosts that still have a route of an earlier daemon keep it so long.
+ *
+ * What comes of a change is random by LONGEST_DELAY too, since all routers of a link see it at once. If two advertisements come
+ * within a millisecond, Linux (6.18) may take an address for preferred whose preferred lifetime is 0, up to its next look, which
+ * comes within two minutes. */
 enum { FIRST_ADVERTS = 3, FIRST_INTERVAL = 16000, LEAST_INTERVAL = 198000, MORE_INTERVAL = 402000 };
 enum { LEAST_BETWEEN = 3000, LONGEST_DELAY = 500, QUIET = 15000 };
 
@@ -75,7 +79,7 @@ static void hasten(struct advertising *it, uint64_t delay)
 static void begin_anew(struct advertising *it)
 {
     it->count = 0;
-    hasten(it, 0);
+    hasten(it, draw_number(LONGEST_DELAY));
 }
 
 /* A prefix that an earlier daemon had on a link: hosts are told that it is not preferred any more. */
@@ -242,7 +246,7 @@ static unsigned send_parts(const struct link *link, size_t length)
 static uint64_t interval(const struct advertising *it, bool is_full)
 {
     if (it->count < FIRST_ADVERTS)
-        return is_full ? LEAST_BETWEEN : FIRST_INTERVAL;
+        return is_full ? LEAST_BETWEEN + draw_number(LONGEST_DELAY) : FIRST_INTERVAL - draw_number(LONGEST_DELAY);
     return LEAST_INTERVAL + draw_number(MORE_INTERVAL);
 }
 

@@ -5,16 +5,17 @@
 #include <netinet/icmp6.h>
 #include <string.h>
 
-/* In milliseconds (RFC 4861, sections 6.2.1, 6.2.4 and 10). After each of the first FIRST_ADVERTS at the start, and after a
- * change, the next one comes after FIRST_INTERVAL. Later ones come after LEAST_INTERVAL, and up to MORE_INTERVAL more. There
- * are never two within LEAST_BETWEEN. A solicitation is answered within LONGEST_DELAY. A link on which there is nothing to
- * advertise is given QUIET before the first one: hosts that still have a route of an earlier daemon keep it so long.
- *
- * What comes of a change is random by LONGEST_DELAY too, since all routers of a link see it at once. If two advertisements come
- * within a millisecond, Linux (6.18) may take an address for preferred whose preferred lifetime is 0, up to its next look, which
- * comes within two minutes. */
-enum { FIRST_ADVERTS = 3, FIRST_INTERVAL = 16000, LEAST_INTERVAL = 198000, MORE_INTERVAL = 402000 };
+/* In milliseconds (RFC 4861, sections 6.2.1, 6.2.4 and 10). At the start, and after a change, FIRST_ADVERTS are each followed by
+ * the next one after FIRST_INTERVAL, and up to FIRST_MORE more. Later ones come after LEAST_INTERVAL, and up to MORE_INTERVAL
+ * more. There are never two within LEAST_BETWEEN. A solicitation is answered within LONGEST_DELAY, and so is a change told. A
+ * link on which there is nothing to advertise is given QUIET before the first one: hosts that still have a route of an earlier
+ * daemon keep it so long. */
+enum { FIRST_ADVERTS = 3, FIRST_INTERVAL = 8000, FIRST_MORE = 8000, LEAST_INTERVAL = 198000, MORE_INTERVAL = 402000 };
 enum { LEAST_BETWEEN = 3000, LONGEST_DELAY = 500, QUIET = 15000 };
+
+/* Where an advertisement has no room for all departed prefixes, hosts hold those that are left out for preferred. So after a
+ * change the next one comes after LEAST_BETWEEN, and up to TURN_MORE more, as often as it takes to tell each (hn_router.h). */
+enum { TURNS = 11, TURN_MORE = 3000 };
 
 /* In seconds: the most that hosts are told of a prefix (RFC 9096, section 3.4), and how long a server of names counts,
  * which is three times the longest interval (RFC 8106, section 5.1). */
@@ -78,7 +79,7 @@ static void hasten(struct advertising *it, uint64_t delay)
  * advertisement may be lost. */
 static void begin_anew(struct advertising *it)
 {
-    it->count = 0;
+    it->count = it->turns = 0;
     hasten(it, draw_number(LONGEST_DELAY));
 }
 
@@ -241,12 +242,19 @@ static unsigned send_parts(const struct link *link, size_t length)
     return parts;
 }
 
-/* Milliseconds until the next advertisement. Where the last one had no room for one more prefix, departed ones may have been
- * left out, which hosts would hold for preferred so long: so those after a change come as near to each other as may be. */
-static uint64_t interval(const struct advertising *it, bool is_full)
+/* Milliseconds until the next advertisement, after one that may have had no room for all. They are random, since all routers of
+ * a link see a change at once: if two advertisements come together, Linux (6.18) may go on to prefer an address whose preferred
+ * lifetime is 0, for up to two minutes or until the next one. */
+static uint64_t interval(struct advertising *it, bool is_full)
 {
-    if (it->count < FIRST_ADVERTS)
-        return is_full ? LEAST_BETWEEN + draw_number(LONGEST_DELAY) : FIRST_INTERVAL - draw_number(LONGEST_DELAY);
+    if (is_full && it->turns < TURNS) {
+        it->turns++;
+        return LEAST_BETWEEN + draw_number(TURN_MORE);
+    }
+    if (it->count < FIRST_ADVERTS) {
+        it->count++;
+        return FIRST_INTERVAL + draw_number(FIRST_MORE);
+    }
     return LEAST_INTERVAL + draw_number(MORE_INTERVAL);
 }
 
@@ -271,7 +279,6 @@ static void advertise(struct link *link)
     it->has_sent = true;
     it->earliest = now() + LEAST_BETWEEN;
     it->next = now() + interval(it, is_full);
-    it->count += it->count < FIRST_ADVERTS;
 }
 
 /* Whether options are well formed. One of the source's hardware address may be forbidden. */

@@ -39,7 +39,7 @@ struct delegation {
 
 /* When advertisements are sent on a link, and what is to be advertised now, without lifetimes. */
 struct advertising {
-    unsigned count;          /* how many were sent since the last change, counted up to FIRST_ADVERTS */
+    unsigned count, turns;   /* how many were sent since the last change, but for those that had no room for all; and these */
     uint64_t begun;          /* since when it advertises here */
     uint64_t earliest, next; /* when the next one may be sent, and when it is due, which is not before that */
     bool has_sent;           /* one was sent, be it long ago */

@@ -35,7 +35,8 @@ SETTLES = 200                     # seconds within which a home comes to rest, o
 LEFT = 16                         # seconds for which a daemon keeps what an earlier one left
 REACHES = 5                       # seconds for which a host asks for echoes before all is looked at again
 SILENT = 45                       # seconds after which a router that is silent is lost
-AT_REST, FLOODED = 3000, 50000    # kB of memory at most
+AT_REST, FLOODED = 3000, 50000    # kB of memory at most: at rest, and whatever strangers do
+TABLE, CROWDED = 256, 90          # other nodes that a router knows at most, and seconds in which a crowd comes to all routers
 FLOOD = 50000, 5                  # datagrams a second, and seconds
 SHOWN = 1500                      # commands that write to the log that nobody reads: 200 kB or more
 STRANGER = 20                     # seconds for which each set of prefixes is told
@@ -323,6 +324,7 @@ class Home:
             self.play_interface()
             self.play_stranger()
             self.play_flood()
+            self.play_crowd()
             self.play_quit()
         finally:
             self.remove()
@@ -392,12 +394,15 @@ class Home:
         self.join(f'r{router.number}', link)
         self.must_rest('interface made again')
 
+    def stranger(self, form, seconds, *more):
+        """The words that start a stranger on the first link, who is a peer of the first router."""
+        link, router = self.routers[1].links[0], self.routers[1]
+        return ['ip', 'netns', 'exec', self.space(f'h{link}'), 'python3', os.path.join(HERE, 'stranger.py'), form, f'l{link}',
+                min(Seen(router.space).near(link)), f'{router.number:08x}', '1', str(seconds), *map(str, more)]
+
     def play_stranger(self):
         """A stranger comes with 32 prefixes that never end, then with 32 others, and goes."""
-        link, router = self.routers[1].links[0], self.routers[1]
-        words = ['ip', 'netns', 'exec', self.space(f'h{link}'), 'python3', os.path.join(HERE, 'stranger.py'), f'l{link}', min(Seen(router.space).near(link)),
-                 f'{router.number:08x}', '1', str(STRANGER)]
-        done = subprocess.run(words, stdout=subprocess.PIPE, stderr=subprocess.PIPE)
+        done = subprocess.run(self.stranger('prefixes', STRANGER), stdout=subprocess.PIPE, stderr=subprocess.PIPE)
         must(done.returncode == 0, f'{self.name}: stranger.py: {done.stderr.decode("utf-8", "replace").strip()[-200:]}')
         longest, fragments = map(int, done.stdout.split())
         must(longest > SEVERAL, f'{self.name}: no prefix of the stranger is advertised')
@@ -417,6 +422,18 @@ class Home:
         count, seconds = done.stdout.decode().split()
         self.tools.flooded.append(int(count) / float(seconds))
         self.must_rest('flooded')
+
+    def play_crowd(self):
+        """A stranger fills the table of each router with nodes, each of which has as many data as may be."""
+        begun, unfilled = time.monotonic(), set(self.routers)
+        with subprocess.Popen(self.stranger('crowd', CROWDED, TABLE - len(self.routers))) as process:
+            while unfilled and process.poll() is None:
+                time.sleep(1)
+                unfilled = {number for number in unfilled if len(json.loads(self.routers[number].tell('show json')[0])['nodes']) <= TABLE}
+            process.kill()
+        must(not unfilled, f'{self.name}: the tables of routers {sorted(unfilled)} are not full')
+        self.moments.append(Moment('tables full', time.monotonic() - begun))
+        self.must_rest('crowd gone')
         self.must_hold(FLOODED, 'VmHWM')
 
     def play_quit(self):

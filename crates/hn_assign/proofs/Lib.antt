@@ -1,5 +1,6 @@
 mod Names
 pub mod AdvertisedBy
+mod Alikes
 pub mod AroundPair
 mod AtPair
 pub mod Awaited
@@ -8,6 +9,7 @@ pub mod Exists
 pub mod FreePrefixes
 pub mod Fronts
 pub mod GrownByEach
+mod HeldSame
 pub mod Indexes
 pub mod Keeping
 pub mod KeptFacts

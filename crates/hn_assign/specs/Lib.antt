@@ -1,4 +1,5 @@
 pub mod Advertised
+pub mod Alike
 pub mod Best
 pub mod Due
 pub mod Facts

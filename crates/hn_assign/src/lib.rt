@@ -9,6 +9,7 @@ mod due;
 mod gathering;
 mod held;
 mod index;
+mod kept_index;
 mod laws;
 mod lines;
 mod of_pairs;
@@ -29,6 +30,7 @@ pub use backoff::{Backoff, Backoffs};
 pub use gathering::{AdvertisedPrefixes, gather};
 pub use held::{Held, Ran};
 pub use index::Index;
+pub use kept_index::{KeptIndex, same_assigned};
 pub use laws::{
     advertised_exists, advertised_of_later, advertised_of_unchanged, answers_know_no_order,
     lines_exclude_each_other, marks_change_nothing, pairs_are_ordered, rest_changes_no_assignment,
@@ -40,5 +42,5 @@ pub use pair::{Pair, Paired};
 pub use precedence::{PRIORITY, best, valid};
 pub use rest::is_at_rest;
 pub use scene::Scene;
-pub use subroutines::subroutine;
+pub use subroutines::{subroutine, subroutine_with};
 pub use wishes::Wishes;

@@ -1,6 +1,7 @@
 ghost use Rattle.std.specs.Prelude.{◌≡◌, ◌^◌, ◌≤◌, [], All, IfOk, OnOk};
 ghost use Rattle.hn_base.specs.Words.{Took};
 ghost use Rattle.hn_data.specs.View.{plain_view, IsNetwork};
+ghost use Rattle.hn_assign.specs.Gathered.{AreAdvertised};
 ghost use Rattle.hn_assign.specs.Facts.{AreWishes, IsInDelegated, IsAssignedPast, HasOwnPriority};
 ghost use Rattle.hn_assign.specs.Pair.{IsAscending, assigned_pair, backoff_pair, wish_pair};
 ghost use Rattle.hn_assign.specs.Subroutine.{IsBegun, AreSteps, IsSubroutine};
@@ -8,8 +9,9 @@ ghost use Rattle.hn_assign.specs.Subroutine.{IsBegun, AreSteps, IsSubroutine};
 use crate::assigned::Wish;
 use crate::held::{Held, Ran};
 use crate::index::Index;
+use crate::kept_index::KeptIndex;
 use crate::wishes::Wishes;
-use hn_base::{NoMemory, Words};
+use hn_base::{NoMemory, Shared, Words};
 use hn_data::View;
 use hn_io::{Draw, words_join};
 use std::alloc::Global;
@@ -47,8 +49,40 @@ pub fn subroutine<D: Draw>(
     ensures past { IfOk result (λ ran. All (IsAssignedPast view.entry.now.now) ran.held.assigned) }
     ensures priority { All HasOwnPriority held.now.assigned → IfOk result (λ ran. All HasOwnPriority ran.held.assigned) }
 {
-    let ran = run(alloc, view, wishes.as_slice(), held, draw)?;
+    let (ran, _) = subroutine_with(alloc, view, wishes, held, &None, draw)?;
     Ok(ran)
+}
+
+/// The same, with the index that is kept, which serves where it is of what the router sees and holds. The answer has the index
+/// to keep in its place; `None` where the kept one is to stay.
+///
+/// # Errors
+///
+/// Out of memory. Words may have been taken then.
+pub fn subroutine_with<D: Draw>(
+    alloc: Global,
+    view: &View<'_>,
+    wishes: &Wishes,
+    held: &Held,
+    kept: &Option<Shared<KeptIndex>>,
+    draw: &mut D,
+) -> Result<(Ran, Option<Shared<KeptIndex>>), NoMemory>
+    requires network { IsNetwork view.now.own.0 view.now.nodes.now }
+    requires moment { view.now.now ≤ 2 ^ 48 }
+    requires inside { All IsInDelegated held.now.assigned }
+    requires past { All (IsAssignedPast view.now.now) held.now.assigned }
+    ensures subroutine { IfOk result (λ left. IsSubroutine (plain_view view.entry.now) wishes.now held.now left.0) }
+    ensures drew { IfOk result (λ left. Took (D.words draw.old) left.0.words (D.words draw.new)) }
+
+    // So what holds of each assignment still holds, and the lists are in order.
+    ensures ascending { IfOk result (λ left. IsAscending assigned_pair left.0.held.assigned
+        × IsAscending backoff_pair left.0.held.backoffs) }
+    ensures inside { IfOk result (λ left. All IsInDelegated left.0.held.assigned) }
+    ensures past { IfOk result (λ left. All (IsAssignedPast view.entry.now.now) left.0.held.assigned) }
+    ensures priority { All HasOwnPriority held.now.assigned → IfOk result (λ left. All HasOwnPriority left.0.held.assigned) }
+{
+    let left = run(alloc, view, wishes.as_slice(), held, kept, draw)?;
+    Ok(left)
 }
 
 /// The subroutine, with the wishes as a slice.
@@ -57,28 +91,30 @@ fn run<D: Draw>(
     view: &View<'_>,
     wishes: &[Wish],
     held: &Held,
+    kept: &Option<Shared<KeptIndex>>,
     draw: &mut D,
-) -> Result<Ran, NoMemory>
+) -> Result<(Ran, Option<Shared<KeptIndex>>), NoMemory>
     requires network { IsNetwork view.now.own.0 view.now.nodes.now }
     requires moment { view.now.now ≤ 2 ^ 48 }
     requires wishes { AreWishes wishes.now }
-    ensures subroutine { IfOk result (IsSubroutine (plain_view view.entry.now) wishes.now held.now) }
-    ensures drew { IfOk result (λ ran. Took (D.words draw.old) ran.words (D.words draw.new)) }
+    ensures subroutine { IfOk result (λ left. IsSubroutine (plain_view view.entry.now) wishes.now held.now left.0) }
+    ensures drew { IfOk result (λ left. Took (D.words draw.old) left.0.words (D.words draw.new)) }
 {
     let mut ran = begin(alloc, wishes, held)?;
-    turns(alloc, view, wishes, &mut ran, draw)?;
+    let next = turns(alloc, view, wishes, kept, &mut ran, draw)?;
     ran.held.assigned.mark(view.now);
-    Ok(ran)
+    Ok((ran, next))
 }
 
-/// The turns of all pairs, in the order of the wishes.
+/// The turns of all pairs, in the order of the wishes: the index to keep, if it is another one.
 fn turns<D: Draw>(
     alloc: Global,
     view: &View<'_>,
     wishes: &[Wish],
+    kept: &Option<Shared<KeptIndex>>,
     ran: &mut Ran,
     draw: &mut D,
-) -> Result<(), NoMemory>
+) -> Result<Option<Shared<KeptIndex>>, NoMemory>
     requires network { IsNetwork view.now.own.0 view.now.nodes.now }
     requires moment { view.now.now ≤ 2 ^ 48 }
     requires wishes { AreWishes wishes.now }
@@ -88,15 +124,71 @@ fn turns<D: Draw>(
 {
     words_join();
     if wishes.is_empty() {
-        return Ok(());
+        return Ok(None);
     }
-    let mut known = Index::gather(alloc, view, &ran.held)?;
-    for wish in wishes {
-        if ran.step(view, &known, wish, draw)? {
-            known = Index::gather(alloc, view, &ran.held)?;
+    let (mut known, served) = first_known(alloc, view, &ran.held, kept)?;
+    let changed = all_turns(alloc, view, wishes, &mut known, ran, draw)?;
+    if served && !changed {
+        return Ok(None);
+    }
+    let next = KeptIndex::of(alloc, view, &ran.held, known)?;
+    Ok(Some(Shared::new(alloc, next)?))
+}
+
+/// What the router knows to be advertised.
+fn gathered(alloc: Global, view: &View<'_>, held: &Held) -> Result<Shared<Index>, NoMemory>
+    requires { IsNetwork view.now.own.0 view.now.nodes.now }
+    ensures { IfOk result (AreAdvertised (plain_view view.entry.now) held.now.assigned) }
+{
+    Shared::new(alloc, Index::gather(alloc, view, held)?)
+}
+
+/// The same, from the index that is kept where that serves, and whether it does.
+fn first_known(
+    alloc: Global,
+    view: &View<'_>,
+    held: &Held,
+    kept: &Option<Shared<KeptIndex>>,
+) -> Result<(Shared<Index>, bool), NoMemory>
+    requires { IsNetwork view.now.own.0 view.now.nodes.now }
+    ensures { IfOk result (λ first. AreAdvertised (plain_view view.entry.now) held.now.assigned first.0) }
+{
+    if let Some(kept) = kept {
+        if let Some(known) = kept.get().serve(view, held)? {
+            return Ok((known, true));
         }
     }
-    Ok(())
+    let known = gathered(alloc, view, held)?;
+    Ok((known, false))
+}
+
+/// The turns, each with what is advertised then: whether that changed.
+fn all_turns<D: Draw>(
+    alloc: Global,
+    view: &View<'_>,
+    wishes: &[Wish],
+    known: &mut Shared<Index>,
+    ran: &mut Ran,
+    draw: &mut D,
+) -> Result<bool, NoMemory>
+    requires network { IsNetwork view.now.own.0 view.now.nodes.now }
+    requires moment { view.now.now ≤ 2 ^ 48 }
+    requires wishes { AreWishes wishes.now }
+    requires untaken { ran.old.words ≡ [] }
+    requires known { AreAdvertised (plain_view view.now) ran.old.held.assigned known.old }
+    ensures steps { OnOk result (AreSteps (plain_view view.entry.now) wishes.now ran.old ran.new) }
+    ensures drew { OnOk result (Took (D.words draw.old) ran.new.words (D.words draw.new)) }
+    ensures known { OnOk result (AreAdvertised (plain_view view.entry.now) ran.new.held.assigned known.new) }
+{
+    words_join();
+    let mut changed = false;
+    for wish in wishes {
+        if ran.step(view, known.get(), wish, draw)? {
+            *known = gathered(alloc, view, &ran.held)?;
+            changed = true;
+        }
+    }
+    Ok(changed)
 }
 
 /// Where the subroutine begins.

@@ -1,6 +1,6 @@
 use Rattle.hn_base.proofs.Names.{take, Took}
 use Rattle.hn_assign.proofs.Names.{plain_view, AreAdvertised, AreSteps}
-use Rattle.hn_assign.proofs.subroutines.turns.Given as goal
+use Rattle.hn_assign.proofs.subroutines.all_turns.Given as goal
 
 abbrev pub invariant-loop-wish : goal.invariant-loop-wish
 invariant-loop-wish g l = record {

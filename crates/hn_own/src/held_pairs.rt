@@ -4,8 +4,8 @@ ghost use Rattle.std.specs.Prelude.{◌≡◌, ◌≤◌, length, All, IfOk};
 ghost use Rattle.hn_own.specs.HeldPairs.{AreHeldPairs, no_pairs, publication_of, published_in, without_private};
 
 use crate::posts::PRIVATE_POST;
-use hn_assign::{Assigned, Held};
-use hn_base::{NoMemory, Sequence};
+use hn_assign::{Assigned, Held, KeptIndex};
+use hn_base::{NoMemory, Sequence, Shared};
 use hn_data::AssignedPrefix;
 use std::alloc::Global;
 use std::marker::Model;
@@ -15,6 +15,8 @@ use std::marker::Model;
 #[derive(Drop)]
 pub struct HeldPairs {
     held: Held,
+    /// The index of the advertised prefixes with which they were made last, if one is kept.
+    index: Option<Shared<KeptIndex>>,
 }
 
 impl Model for HeldPairs {
@@ -47,6 +49,7 @@ impl HeldPairs {
     {
         HeldPairs {
             held: Held::new(alloc),
+            index: None,
         }
     }
 
@@ -55,7 +58,29 @@ impl HeldPairs {
         requires { AreHeldPairs held }
         ensures { result ≡ held }
     {
-        HeldPairs { held }
+        HeldPairs { held, index: None }
+    }
+
+    /// These assignments and backoffs, with the index with which they were made; where there is none, with the one that is
+    /// kept.
+    ///
+    /// # Errors
+    ///
+    /// Out of memory.
+    pub fn then(&self, held: Held, index: Option<Shared<KeptIndex>>) -> Result<HeldPairs, NoMemory>
+        requires { AreHeldPairs held }
+        ensures { IfOk result (λ next. next ≡ held) }
+    {
+        let index = match index {
+            Some(index) => Some(index),
+            None => self.index.clone()?,
+        };
+        Ok(HeldPairs { held, index })
+    }
+
+    /// The index that is kept, if one is. Never allocates.
+    pub fn index(&self) -> &Option<Shared<KeptIndex>> {
+        &self.index
     }
 
     /// The assignments and backoffs. Never allocates.
@@ -77,7 +102,7 @@ impl HeldPairs {
         let mut held = self.held.copy(alloc)?;
         held.assigned.remove(PRIVATE_POST);
         held.backoffs.remove(PRIVATE_POST);
-        Ok(HeldPairs { held })
+        Ok(HeldPairs { held, index: None })
     }
 
     /// What the router publishes of the assignments: at most 544, each with priority 2.

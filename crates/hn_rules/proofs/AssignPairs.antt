@@ -1,6 +1,6 @@
 -- What is asked for a router's posts, and what the subroutine makes of it.
-use Rattle.hn_base.proofs.Names.{◌≡◌, ◌↔◌, ℕ, List, Contains, Result, Ok, Err, sym, subst, All, IfOk, IsTotalOrder, All-contains, IsExact}
-use Rattle.hn_rules.proofs.Names.{EpId, NoMemory, PlainView, Delegated, AreUsable, Wish, Held, IsInDelegated, HasOwnPriority, assigned_pair, pair_cmp, IsAscending, IsWished, IsSubroutine}
+use Rattle.hn_base.proofs.Names.{◌≡◌, ◌↔◌, ℕ, List, Contains, sym, subst, All, IsTotalOrder, All-contains, IsExact}
+use Rattle.hn_rules.proofs.Names.{EpId, PlainView, Delegated, AreUsable, Wish, Held, IsInDelegated, HasOwnPriority, assigned_pair, pair_cmp, IsAscending, IsWished, IsSubroutine}
 use Rattle.hn_rules.proofs.Names.{AssignedAreWished, AreHeldPairs, FewPosts, ArePorts, posts_of, State, seen_by, IsWishAt, AreAsked, IsRunAssigned}
 use Rattle.hn_assign.specs.declared.held.Ran.{Ran}
 use Rattle.hn_assign.specs.Facts.{AreWishes}
@@ -29,10 +29,9 @@ are_asked s view usable posts wishes are same_view same exact = record {
 
 -- ---- what the subroutine makes
 
-pub assigned_of : (s : State) (view : PlainView) (usable : List Delegated) (wishes : List Wish) (held : Held) (r : Result Ran NoMemory) → view ≡ seen_by s → held ≡ s.held
-    → AreUsable (seen_by s) usable → AreAsked s usable wishes → IfOk r (IsSubroutine view wishes held) → IfOk r (IsRunAssigned s)
-assigned_of s view usable wishes held (Err e) same_view same_held are asked run = tt
-assigned_of s view usable wishes held (Ok ran) same_view same_held are asked run = record {
+pub assigned_of : (s : State) (view : PlainView) (usable : List Delegated) (wishes : List Wish) (held : Held) (ran : Ran) → view ≡ seen_by s → held ≡ s.held
+    → AreUsable (seen_by s) usable → AreAsked s usable wishes → IsSubroutine view wishes held ran → IsRunAssigned s ran
+assigned_of s view usable wishes held ran same_view same_held are asked run = record {
   usable = usable;
   are_usable = are;
   wishes = wishes;
@@ -40,11 +39,10 @@ assigned_of s view usable wishes held (Ok ran) same_view same_held are asked run
   is_subroutine = subst (λ (h : Held). IsSubroutine (seen_by s) wishes h ran) same_held (subst (λ (v : PlainView). IsSubroutine v wishes held ran) same_view run);
 }
 
-pub kept_of : FewPosts → IsTotalOrder pair_cmp → IsExact pair_cmp → AssignedAreWished → (s : State) (r : Result Ran NoMemory) → ArePorts s.ports → IfOk r (IsRunAssigned s)
-    → IfOk r (λ ran. IsAscending assigned_pair ran.held.assigned × IsAscending backoff_pair ran.held.backoffs)
-    → IfOk r (λ ran. All IsInDelegated ran.held.assigned) → IfOk r (λ ran. All HasOwnPriority ran.held.assigned) → IfOk r (λ ran. AreHeldPairs ran.held)
-kept_of posts total exact leaves s (Err e) ports is up inside priority = tt
-kept_of posts total exact leaves s (Ok ran) ports is up inside priority = record {
+pub kept_of : FewPosts → IsTotalOrder pair_cmp → IsExact pair_cmp → AssignedAreWished → (s : State) (ran : Ran) → ArePorts s.ports → IsRunAssigned s ran
+    → IsAscending assigned_pair ran.held.assigned × IsAscending backoff_pair ran.held.backoffs
+    → All IsInDelegated ran.held.assigned → All HasOwnPriority ran.held.assigned → AreHeldPairs ran.held
+kept_of posts total exact leaves s ran ports is up inside priority = record {
   assigned = up.0;
   backoffs = up.1;
   few = wished_few s is.usable is.wishes is.are_asked assigned_pair total exact ran.held.assigned is.are_usable.few (posts s.private s.ports ports) up.0

@@ -1,45 +1,8 @@
 -- An assignment of prefixes: the words that it takes, and what it leaves.
-use Rattle.hn_base.proofs.Names.{◌≡◌, ◌∙◌, ℕ, Bool, List, Option, Decides, sym, ap, subst, ◌==◌, ◌&&◌, nat_eq, option_eq, beq, Decides-and, Decides-like, Decides-eqb, Drew, Took}
-use Rattle.hn_rules.proofs.Names.{Assigned, Backoff, Held, Running, State, IsWishAt, IsRunAssigned, IsAssigning, seen_by, IsSubroutine, Wish, PlainView, AreUsable, Nodes, Ran, with_words, IsRefreshed}
-use Rattle.std.specs.Cmp.{booleans_Decides}
-use Rattle.hn_base.proofs.DecidingTests.{option_decided}
+use Rattle.hn_base.proofs.Names.{◌≡◌, ◌∙◌, ℕ, List, Option, Decides, sym, ap, subst, ◌==◌, ◌&&◌, Decides-and, Decides-like, Decides-eqb, Drew, Took}
+use Rattle.hn_rules.proofs.Names.{Backoff, Held, Running, State, IsWishAt, IsRunAssigned, IsAssigning, seen_by, IsSubroutine, Wish, PlainView, AreUsable, Nodes, Ran, with_words, IsRefreshed}
 use Rattle.hn_assign.specs.declared.held.Ran.{Ran as Left}
 use Rattle.hn_base.proofs.Prefixes.{is_one_prefix, prefix_decided}
-
--- ---- when assignments are the same
-
-abbrev SameParts : Assigned → Assigned → Type 0
-SameParts a b =
-    (a.delegated ≡ b.delegated) × ((a.endpoint.0 ≡ b.endpoint.0) × ((a.prefix ≡ b.prefix) × ((a.published ≡ b.published) × ((a.since ≡ b.since) × (a.applied ≡ b.applied)))))
-
-abbrev same_test : Assigned → Assigned → Bool
-same_test a b =
-    is_one_prefix a.delegated b.delegated && (a.endpoint.0 == b.endpoint.0 &&
-    (is_one_prefix a.prefix b.prefix && (option_eq nat_eq a.published b.published && (a.since == b.since && beq a.applied b.applied))))
-
-pub assigned_decided : (a b : Assigned) → Decides (same_test a b) (a ≡ b)
-assigned_decided a b =
-    Decides-like _
-    (λ (same : SameParts a b). λ i. record {
-      delegated = same.0 i;
-      endpoint = record { 0 = same.1.0 i };
-      prefix = same.1.1.0 i;
-      published = same.1.1.1.0 i;
-      since = same.1.1.1.1.0 i;
-      applied = same.1.1.1.1.1 i;
-    })
-    (λ (same : a ≡ b). (
-      ap (λ (c : Assigned). c.delegated) same,
-      (
-        ap (λ (c : Assigned). c.endpoint.0) same,
-        (
-          ap (λ (c : Assigned). c.prefix) same,
-          (ap (λ (c : Assigned). c.published) same, (ap (λ (c : Assigned). c.since) same, ap (λ (c : Assigned). c.applied) same)),
-        ),
-      ),
-    ))
-    (Decides-and _ _ (prefix_decided a.delegated b.delegated) (Decides-and _ _ (Decides-eqb a.endpoint.0 b.endpoint.0) (Decides-and _ _ (prefix_decided a.prefix b.prefix)
-    (Decides-and _ _ (option_decided a.published b.published) (Decides-and _ _ (Decides-eqb a.since b.since) (booleans_Decides a.applied b.applied))))))
 
 -- ---- when backoffs are the same
 

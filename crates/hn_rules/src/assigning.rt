@@ -17,13 +17,15 @@ ghost use Rattle.hn_rules.specs.Posts.{HasCommonLink, endpoints_at};
 use crate::laws::view_is_a_network;
 use crate::running::Running;
 use crate::state::State;
-use hn_assign::{Held, Wish, Wishes, pairs_are_ordered, subroutine, subroutine_leaves};
+use hn_assign::{
+    Held, KeptIndex, Wish, Wishes, pairs_are_ordered, subroutine_leaves, subroutine_with,
+};
 use hn_base::{Endpoints, EpId, LinkLength, NoMemory, Shared};
 use hn_data::View;
 use hn_deleg::{Delegated, used, wanted};
 use hn_io::Draw;
 use hn_link::{common, common_link_is_unique};
-use hn_own::{HeldPairs, length_at, posts_ascend};
+use hn_own::{length_at, posts_ascend};
 use std::alloc::Global;
 
 /// An endpoint and its Common Link, which is found once for all pairs of the endpoint.
@@ -162,12 +164,16 @@ impl State {
         self.wishes_in(alloc, &view, usable)
     }
 
-    /// What the assignment subroutine makes of the router's assignments and backoffs.
-    fn assigned<D: Draw>(&self, alloc: Global, draw: &mut D) -> Result<hn_assign::Ran, NoMemory>
+    /// What the assignment subroutine makes of the router's assignments and backoffs, and the index to keep, if it is another.
+    fn assigned<D: Draw>(
+        &self,
+        alloc: Global,
+        draw: &mut D,
+    ) -> Result<(hn_assign::Ran, Option<Shared<KeptIndex>>), NoMemory>
         requires { IsRouter self.now }
-        ensures assigned { IfOk result (IsRunAssigned self.now) }
-        ensures kept { IfOk result (λ ran. AreHeldPairs ran.held) }
-        ensures drew { IfOk result (λ ran. Took (D.words draw.old) ran.words (D.words draw.new)) }
+        ensures assigned { IfOk result (λ left. IsRunAssigned self.now left.0) }
+        ensures kept { IfOk result (λ left. AreHeldPairs left.0.held) }
+        ensures drew { IfOk result (λ left. Took (D.words draw.old) left.0.words (D.words draw.new)) }
     {
         view_is_a_network();
         pairs_are_ordered();
@@ -178,22 +184,30 @@ impl State {
         let _now = self.moment.get();
         let usable = used(alloc, &view)?;
         let wishes = self.wishes_in(alloc, &view, usable.as_slice())?;
-        subroutine(alloc, &view, &wishes, self.held.get().get(), draw)
+        let held = self.held.get();
+        let left = subroutine_with(alloc, &view, &wishes, held.get(), held.index(), draw)?;
+        Ok(left)
     }
 }
 
 impl Running {
     /// Holds what the assignment subroutine left, where the router does not hold it already: whether an assignment differs.
-    fn hold(&mut self, alloc: Global, held: Held) -> Result<bool, NoMemory>
+    fn hold(
+        &mut self,
+        alloc: Global,
+        held: Held,
+        index: Option<Shared<KeptIndex>>,
+    ) -> Result<bool, NoMemory>
         requires { AreHeldPairs held }
         ensures held { OnOk result (self.new ≡ record self.old { state = record self.old.state { held = held } }) }
         ensures untouched { IfOk result (λ touched. touched ≡ false → held.assigned ≡ self.old.state.held.assigned) }
     {
         let touched = !self.state.has_assigned(&held);
-        if !touched && self.state.has_backoffs(&held) {
+        if !touched && index.is_none() && self.state.has_backoffs(&held) {
             return Ok(false);
         }
-        self.state.held = Shared::new(alloc, HeldPairs::of(held))?;
+        let next = self.state.held.get().then(held, index)?;
+        self.state.held = Shared::new(alloc, next)?;
         Ok(touched)
     }
 
@@ -208,8 +222,8 @@ impl Running {
         ensures ran { OnOk result (Ran IsAssigning (D.words draw.old) (D.words draw.new) self.old self.new) }
         ensures untouched { IfOk result (λ touched. touched ≡ false → IsRefreshed self.new.state) }
     {
-        let hn_assign::Ran { held, words } = self.state.assigned(alloc, draw)?;
-        let touched = self.hold(alloc, held)?;
+        let (hn_assign::Ran { held, words }, index) = self.state.assigned(alloc, draw)?;
+        let touched = self.hold(alloc, held, index)?;
         self.took_words(words.as_slice())?;
         Ok(touched)
     }

@@ -11,18 +11,11 @@ ghost use Rattle.hn_rules.specs.Ticks.{IsTick};
 use crate::laws::{idle_is_still, rules_have_one_result, silent_tick_is_still, still_is_idle};
 use crate::running::Running;
 use crate::state::State;
-use hn_assign::{Assigned, Backoff, Held};
+use hn_assign::{Backoff, Held, same_assigned};
 use hn_base::{Moment, NodeId, NodeIds};
 
 /// Whether two lists have the same identifiers.
 fn same_nodes(a: &[NodeId], b: &[NodeId]) -> bool
-    ensures { IsTrue result ↔ (a.now ≡ b.now) }
-{
-    a == b
-}
-
-/// Whether two lists have the same assignments.
-fn same_assigned(a: &[Assigned], b: &[Assigned]) -> bool
     ensures { IsTrue result ↔ (a.now ≡ b.now) }
 {
     a == b

@@ -12,35 +12,35 @@ wishes_in-requires g c =
       network = c.view_is_a_network.ensures s c.requires;
     }
 
-pub subroutine-requires-clause-network : goal.subroutine-requires-clause-network
-subroutine-requires-clause-network g c =
+pub subroutine_with-requires-clause-network : goal.subroutine_with-requires-clause-network
+subroutine_with-requires-clause-network g c =
     subst (λ (v : PlainView). IsNetwork v.own v.nodes) (sym c.view-view.ensures) (c.view_is_a_network.ensures c.args.self.now c.requires)
 
-pub subroutine-requires-clause-moment : goal.subroutine-requires-clause-moment
-subroutine-requires-clause-moment g c =
+pub subroutine_with-requires-clause-moment : goal.subroutine_with-requires-clause-moment
+subroutine_with-requires-clause-moment g c =
     let present = c.get-now.ensures in
     let same = ap (λ (v : PlainView). v.now) c.view-view.ensures in
     omega arith
 
-pub subroutine-requires-clause-inside : goal.subroutine-requires-clause-inside
-subroutine-requires-clause-inside g c = subst (λ (held : Held). All IsInDelegated held.assigned) (sym c.get-2.ensures.held) c.get-2.ensures.kept.inside
+pub subroutine_with-requires-clause-inside : goal.subroutine_with-requires-clause-inside
+subroutine_with-requires-clause-inside g c = subst (λ (held : Held). All IsInDelegated held.assigned) (sym c.get.ensures.held) c.get.ensures.kept.inside
 
-pub subroutine-requires-clause-past : goal.subroutine-requires-clause-past
-subroutine-requires-clause-past g c =
-    subst (λ (v : PlainView). All (IsAssignedPast v.now) c.get-2.result.now.assigned) (sym c.view-view.ensures)
-    (subst (λ (held : Held). All (IsAssignedPast c.args.self.now.moment) held.assigned) (sym (c.get-2.ensures.held ∙ c.get.ensures)) c.requires.well.past.assigned)
+pub subroutine_with-requires-clause-past : goal.subroutine_with-requires-clause-past
+subroutine_with-requires-clause-past g c =
+    subst (λ (v : PlainView). All (IsAssignedPast v.now) c.get.result.now.assigned) (sym c.view-view.ensures)
+    (subst (λ (held : Held). All (IsAssignedPast c.args.self.now.moment) held.assigned) (sym (c.get.ensures.held ∙ c.get-held.ensures)) c.requires.well.past.assigned)
 
 pub returns-clause-assigned : goal.returns-clause-assigned
 returns-clause-assigned g c =
     let s = c.args.self.now in
     let usable = subst (AreUsable (seen_by s)) (sym c.as_slice-2.ensures) (subst (λ (v : PlainView). AreUsable v c.in_ok-usable.usable) c.view-view.ensures c.in_ok-usable.ensures) in
-    assigned_of s (plain_view c.view-view.result) c.as_slice-2.result.now c.in_ok-wishes.wishes c.get-2.result.now c.subroutine.result
-    c.view-view.ensures (c.get-2.ensures.held ∙ c.get.ensures) usable c.in_ok-wishes.ensures c.subroutine.ensures.subroutine
+    assigned_of s (plain_view c.view-view.result) c.as_slice-2.result.now c.in_ok-wishes.wishes c.get.result.now c.in_ok-left.left.0
+    c.view-view.ensures (c.get.ensures.held ∙ c.get-held.ensures) usable c.in_ok-wishes.ensures c.in_ok-left.ensures.subroutine
 
 pub returns-clause-kept : goal.returns-clause-kept
 returns-clause-kept g c =
-    let held = c.get-2.ensures in
+    let held = c.get.ensures in
     let priority = subst (λ (h : Held). All HasOwnPriority h.assigned) (sym held.held) held.kept.priority in
     kept_of c.posts_ascend.ensures.few c.pairs_are_ordered.ensures.total c.pairs_are_ordered.ensures.exact c.subroutine_leaves.ensures.wished
-    c.args.self.now c.subroutine.result c.requires.well.ports (returns-clause-assigned g c)
-    c.subroutine.ensures.ascending c.subroutine.ensures.inside (c.subroutine.ensures.priority priority)
+    c.args.self.now c.in_ok-left.left.0 c.requires.well.ports (returns-clause-assigned g c)
+    c.in_ok-left.ensures.ascending c.in_ok-left.ensures.inside (c.in_ok-left.ensures.priority priority)

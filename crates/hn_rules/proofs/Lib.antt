@@ -25,11 +25,10 @@ pub mod Leads
 mod Leaves
 mod Limits
 mod NodeLists
-mod OneResults
-mod SomeRefreshes
-mod SomeArrivals
+mod ExactRefreshes
+mod ExactArrivals
 pub mod SomeWishes
-mod SomeTicks
+mod ExactTicks
 mod OwnIntervals
 mod PartsOfRouters
 mod Passings

@@ -15,7 +15,7 @@ use Rattle.hn_rules.proofs.Forgetting.{IsMarked, stays}
 use Rattle.hn_rules.proofs.RefreshChangesNothing.{marks_same, same_refresh}
 use Rattle.hn_rules.proofs.Resting.{none_expire_at, only, ports_rest}
 use Rattle.hn_rules.proofs.Refreshes.{refreshed-later, seen_marked}
-use Rattle.hn_rules.proofs.OneResults.{sole_expiry}
+use Rattle.hn_rules.proofs.ExactTicks.{exact_expiry}
 use Rattle.hn_rules.proofs.PortsInTurn.{with_ports}
 use Rattle.hn_rules.proofs.NoPeerExpired.{none_expired, expiry_ports}
 use Rattle.hn_rules.proofs.SilentPorts.{all_idle, ticks_ports}
@@ -92,7 +92,7 @@ module _ (laws : IdleLaws) (s : State) (now : ℕ) (router : IsRouter s) (begun 
       let links : links_of ports ≡ links_of s.ports = ap (λ (o : OwnItems). o.links) items in
       let delegated : delegated_after now s.delegated ≡ s.delegated = ap (λ (o : OwnItems). o.delegated) items in
       let heard = none_expired start expired router.well.ports expiry links in
-      let none : expired ≡ start = only IsExpiry sole_expiry start expired expiry (none_expire_at start router.well.ports heard) in
+      let none : expired ≡ start = only IsExpiry exact_expiry.sole start expired expiry (none_expire_at start router.well.ports heard) in
       record {
         heard = heard;
         lasting = (laws.ending now s.delegated).0 delegated;

@@ -1,6 +1,6 @@
 -- Rules of a router.
 use Rattle.std.specs.Prelude.{ℕ, List, [], ◌∷◌, ◌++◌, Option, None}
-use Rattle.hn_base.specs.Rules.{RuleOf, OnSome, RanBy, IsSoleBy, IsTotalBy}
+use Rattle.hn_base.specs.Rules.{RuleOf, OnSome, RanBy, IsSoleBy, IsTotalBy, IsExactBy}
 use Rattle.hn_base.specs.declared.ids.EpId.{EpId}
 use Rattle.hn_dncp.specs.declared.port.Port.{Port}
 use Rattle.hn_rules.specs.declared.done.Note.{Note}
@@ -36,6 +36,10 @@ IsSole = IsSoleBy words_of
 -- where a fact holds before, it cannot be that a rule has no result over a stream of words that begins with those taken
 abbrev pub IsTotal : (Running → Type 0) → Rule → Type 0
 IsTotal = IsTotalBy words_of
+
+-- where a fact holds before, a rule has exactly one result over a stream of words that begins with those taken
+abbrev pub IsExactRule : (Running → Type 0) → Rule → Type 0
+IsExactRule = IsExactBy words_of
 
 -- with more words taken
 abbrev pub with_words : List ℕ → Running → Running

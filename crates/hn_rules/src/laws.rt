@@ -23,7 +23,8 @@ ghost use Rattle.hn_rules.specs.Laws.{ChangesKeepShort, ChangesKeepBytes, Change
 ghost use Rattle.hn_rules.specs.Laws.{ArrivalHasAResult, AssigningHasAResult, WishesExist};
 ghost use Rattle.hn_rules.specs.Refresh.{IsRefresh};
 ghost use Rattle.hn_rules.specs.Rested.{KeepsId, RestfulTick, UsedWhereAssigned, ViewOfLater};
-ghost use Rattle.hn_rules.specs.Rules.{IsSole};
+ghost use Rattle.hn_rules.specs.Router.{IsRouter, IsWell};
+ghost use Rattle.hn_rules.specs.Rules.{IsExactRule, IsSole};
 ghost use Rattle.hn_rules.specs.Tick.{IsExpiry, forgetting, IsPortsTick};
 ghost use Rattle.hn_rules.specs.Ticks.{IsTick};
 ghost use Rattle.hn_rules.specs.Updates.{PeersAreAttached, PeersUpdatesPass, TicksSendUpdates, OwnIntervalIsDefault, RestfulTickLeavesAges, RestfulTickMovesPorts, TicksHaveSent};
@@ -54,7 +55,7 @@ use hn_store::{
     forgetting_leaves, held_is_of_an_entry, held_was_brought, loss_keeps_table, own_stays,
 };
 use hn_timers::expiry_is_a_moment;
-use hn_tlv::{first_fault_is_unique, list_is_of_bytes, list_is_unique, spelling_is_prefix_free};
+use hn_tlv::{list_is_of_bytes, list_is_unique, spelling_is_prefix_free};
 use hn_typed::{item_fault_is_unique, item_is_unique, item_or_fault, written_is_read};
 
 /// The network state hash of a router is that of the leaves of the nodes that it reaches.
@@ -366,6 +367,45 @@ pub fn rules_keep_the_rest()
     addresses_stay();
 }
 
+/// Over each stream of words each rule has exactly one result, where its router is whole; an arrival has at most one, and one
+/// where its TLVs are some.
+fn rules_are_exact()
+    ensures refresh { IsExactRule (λ r. IsWell r.state) IsRefresh }
+    ensures one_arrival { (from : Origin) (tlvs : List PlainTlv) → IsSole (IsArrival from tlvs) }
+    ensures arrival { ArrivalHasAResult }
+    ensures expiry { IsExactRule (λ r. IsWell r.state) IsExpiry }
+    ensures assigning { IsExactRule (λ r. IsRouter r.state) IsAssigning }
+    ensures ports { IsExactRule (λ r. IsWell r.state) IsPortsTick }
+    ensures tick { IsExactRule (λ r. IsWell r.state) IsTick }
+    ensures attaching { (at : EpId) → IsExactRule (λ r. IsWell r.state) (IsAttaching at) }
+    ensures restarting { IsExactRule (λ r. IsWell r.state) IsRestarting }
+{
+    changes_keep_the_rest();
+    own_items_fit();
+    own_data_exists();
+    own_data_is_unique();
+    ascending_is_unique::<NodeId>();
+    reachable_is_a_node();
+    acceptance_exists();
+    acceptance_is_unique();
+    packing_exists();
+    packing_is_unique();
+    item_or_fault();
+    item_is_unique();
+    item_fault_is_unique();
+    usable_exists();
+    usable_is_unique();
+    usable_are_prefixes();
+    common_link_exists();
+    common_link_is_unique();
+    pairs_are_ordered();
+    subroutine_has_a_result();
+    subroutine_has_one_result();
+    view_is_a_network();
+    refresh_makes_a_router();
+    rules_keep_a_router();
+}
+
 /// Over one stream of words each rule has at most one result.
 pub fn rules_have_one_result()
     ensures refresh { IsSole IsRefresh }
@@ -377,17 +417,7 @@ pub fn rules_have_one_result()
     ensures attaching { (at : EpId) → IsSole (IsAttaching at) }
     ensures restarting { IsSole IsRestarting }
 {
-    list_is_unique();
-    first_fault_is_unique();
-    item_is_unique();
-    item_fault_is_unique();
-    own_data_is_unique();
-    ascending_is_unique::<NodeId>();
-    acceptance_is_unique();
-    packing_is_unique();
-    usable_is_unique();
-    pairs_are_ordered();
-    subroutine_has_one_result();
+    rules_are_exact();
 }
 
 /// Over each stream of words each rule has a result: it cannot be that there is none. With `rules_have_one_result` there is
@@ -402,22 +432,7 @@ pub fn rules_have_a_result()
     ensures attaching { (at : EpId) → HasAResult (IsAttaching at) }
     ensures restarting { HasAResult IsRestarting }
 {
-    changes_keep_the_rest();
-    own_items_fit();
-    own_data_exists();
-    reachable_is_a_node();
-    acceptance_exists();
-    packing_exists();
-    item_or_fault();
-    usable_exists();
-    usable_are_prefixes();
-    common_link_exists();
-    common_link_is_unique();
-    pairs_are_ordered();
-    subroutine_has_a_result();
-    view_is_a_network();
-    refresh_makes_a_router();
-    rules_keep_a_router();
+    rules_are_exact();
 }
 
 /// These rules keep the moment, and which endpoints are attached.

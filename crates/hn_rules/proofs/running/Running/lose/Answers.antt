@@ -12,7 +12,8 @@ refresh_after-requires-clause-untouched g c none =
 
 pub returns-clause-ran : goal.returns-clause-ran
 returns-clause-ran g c =
-    on_ok_weaker c.refresh_after.result (λ ran. ran_losing _ _ c.args.self.now c.expire_ports.new.self c.end_prefixes.new.self c.refresh_after.new.self c.in_ok-expired.ensures.rule c.in_ok-ended.ensures.rule ran)
+    on_ok_weaker c.refresh_after.result
+    (λ ran. ran_losing _ _ c.args.self.now c.expire_ports.new.self c.end_prefixes.new.self c.refresh_after.new.self c.in_ok-expired.ensures.rule c.in_ok-ended.ensures.rule ran)
     c.refresh_after.ensures.ran
 
 pub returns-clause-router : goal.returns-clause-router

@@ -5,7 +5,9 @@ use Rattle.hn_rules.proofs.running.Running.settle.Goals as goal
 
 pub returns : goal.returns
 returns g c =
-    on_ok_weaker c.refresh_after.result (λ ran. ran_both words_of IsAssigning IsRefresh _ _ _ c.args.self.now c.assign.new.self c.refresh_after.new.self c.in_ok-any.ensures.ran ran) c.refresh_after.ensures.ran
+    on_ok_weaker c.refresh_after.result
+    (λ ran. ran_both words_of IsAssigning IsRefresh _ _ _ c.args.self.now c.assign.new.self c.refresh_after.new.self c.in_ok-any.ensures.ran ran)
+    c.refresh_after.ensures.ran
 
 pub refresh_after-requires-clause-linked : goal.refresh_after-requires-clause-linked
 refresh_after-requires-clause-linked g c _ =

@@ -1,5 +1,6 @@
 mod Names
 mod Sent
+mod Taken
 mod Stepped
 mod Grown
 mod Turned

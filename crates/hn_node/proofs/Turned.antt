@@ -4,7 +4,8 @@ use Rattle.hn_node.proofs.Names.{append-nil, Datagram, Logged, NodeEvent, Node, 
 use Rattle.hn_node.proofs.Names.{Grows}
 use Rattle.hn_wire.specs.Clocks.{ReadsClock}
 use Rattle.hn_node.specs.declared.logged.NodeEvent.TheVariants as node
-use Rattle.hn_node.specs.Turns.{FailsToTake, CutTurns}
+use Rattle.hn_node.proofs.Names.{State}
+use Rattle.hn_node.specs.Turns.{FailsToTake, CutTurns, StarvesSteps, StarvesTurn}
 use Rattle.hn_node.proofs.Grown.{none_grown, one_grown, both_grown, both_handed}
 
 -- what arrives, of what was taken
@@ -79,6 +80,30 @@ module _ (at : PlainSite) (now : ℕ) (taken : Option NodeEvent) (waiting left :
           })),
           both_grown first.0 (h.0 ∷ []) (handed_in at first.0) h.1 told told_between told_after a b c first.2 one,
         )
+
+-- memory ended while what was taken arrived
+pub starves_arriving : (at : PlainSite) (now : ℕ) (taken : Option NodeEvent) (router : State) (waiting left after : Option (List Datagram)) → TakesTurn at taken waiting left
+    → (event : NodeEvent) × (taken ≡ Some event) × StarvesSteps at now event (serving router left) after → StarvesTurn at now (serving router waiting) after
+starves_arriving at now taken router waiting left after takes (event, is, starves) = inr (inl (record {
+  taken = event;
+  begun = serving router left;
+  begins = record { takes = subst (λ (t : Option NodeEvent). TakesTurn at t waiting left) is takes; router = refl };
+  starves = starves;
+}))
+
+-- or while the router ticked
+pub starves_ticking : (at : PlainSite) (now : ℕ) (taken : Option NodeEvent) (router next : State) (waiting left between after : Option (List Datagram)) (first : List Logged)
+    → TakesTurn at taken waiting left → Arrives at now taken first (serving router left) (serving next between)
+    → StarvesSteps at now node.Tick (serving next between) after → StarvesTurn at now (serving router waiting) after
+starves_ticking at now taken router next waiting left between after first takes arrives starves = inr (inr (record {
+  taken = taken;
+  begun = serving router left;
+  begins = record { takes = takes; router = refl };
+  first = first;
+  between = serving next between;
+  arrives = arrives;
+  starves = starves;
+}))
 
 -- nothing was taken, since the wire failed
 pub cut_taking : (at : PlainSite) (now : ℕ) (waiting after : Option (List Datagram)) (told : Option (ℕ → ℕ)) (a : Node) → FailsToTake at waiting after

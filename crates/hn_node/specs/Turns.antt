@@ -190,6 +190,52 @@ pub record CutTurns (at : PlainSite) (turns : ℕ) (log : List Logged) (handed :
   pub log_is : log ≡ past ++ entries
   pub handed_is : handed ≡ handed_in at past ++ last
 
+-- ---- a turn in which memory ended, by what waits then
+
+-- nothing was taken, as where the wire fails; or a datagram was, if one waited
+abbrev pub StarvesTaking : PlainSite → Option (List Datagram) → Option (List Datagram) → Type 0
+StarvesTaking at before after = FailsToTake at before after ⊎ ((taken : Option NodeEvent) × TakesTurn at taken before after)
+
+-- an event of which nothing was sent, or only a proper front of what came of it
+abbrev pub StarvesSteps : PlainSite → ℕ → NodeEvent → Serving → Option (List Datagram) → Type 0
+StarvesSteps at now event before waiting =
+    (waiting ≡ before.waiting)
+    ⊎ ((l : Logged) × (handed : List Datagram) × (router : State) × CutSteps at now event l handed before (serving router waiting))
+
+-- while what was taken arrived
+pub record StarvesArrival (at : PlainSite) (now : ℕ) (before : Serving) (waiting : Option (List Datagram)) : Type 0 where
+  pub taken : NodeEvent
+  pub begun : Serving
+  pub begins : BeginsTurn at (Some taken) before begun
+  pub starves : StarvesSteps at now taken begun waiting
+
+-- while the router ticked
+pub record StarvesTick (at : PlainSite) (now : ℕ) (before : Serving) (waiting : Option (List Datagram)) : Type 0 where
+  pub taken : Option NodeEvent
+  pub begun : Serving
+  pub begins : BeginsTurn at taken before begun
+  pub first : List Logged
+  pub between : Serving
+  pub arrives : Arrives at now taken first begun between
+  pub starves : StarvesSteps at now node.Tick between waiting
+
+abbrev pub StarvesTurn : PlainSite → ℕ → Serving → Option (List Datagram) → Type 0
+StarvesTurn at now before waiting =
+    StarvesTaking at before.waiting waiting ⊎ (StarvesArrival at now before waiting ⊎ StarvesTick at now before waiting)
+
+-- Memory ended in the turns of a node: after fewer turns than asked, in one more. This waits then, and the clock has these readings
+-- left.
+pub record StarvesTurns (at : PlainSite) (turns : ℕ) (before : Serving) (waiting : Option (List Datagram)) (readings rest : Option (List ℕ)) : Type 0 where
+  pub made : ℕ
+  pub fewer : made < turns
+  pub past : List Logged
+  pub between : Serving
+  pub left : Option (List ℕ)
+  pub whole : Turns at made past before between readings left
+  pub now : ℕ
+  pub reads : ReadsClock left now rest
+  pub starves : StarvesTurn at now between waiting
+
 -- ---- what is said of a log
 
 abbrev pub is_tick_event : NodeEvent → Bool

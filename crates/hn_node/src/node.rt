@@ -5,7 +5,7 @@ ghost use Rattle.hn_io.specs.Faults.{IsCaused};
 ghost use Rattle.hn_wire.specs.declared.datagram.Datagram.{Datagram};
 ghost use Rattle.hn_node.specs.declared.logged.Logged.{Logged};
 ghost use Rattle.hn_node.specs.declared.logged.NodeEvent.{NodeEvent};
-ghost use Rattle.hn_node.specs.Turns.{serving, handed_of, handed_in, Steps, CutSteps, Arrives, IsTurn, CutTurn, Turns, CutTurns, IsShort};
+ghost use Rattle.hn_node.specs.Turns.{serving, handed_of, handed_in, Steps, CutSteps, Arrives, IsTurn, CutTurn, Turns, CutTurns, StarvesSteps, StarvesTurn, StarvesTurns, IsShort};
 ghost use Rattle.hn_node.specs.Steps.{plain_site, IsSite, Adds, Grows};
 
 use crate::logged;
@@ -46,6 +46,8 @@ impl Node {
         ensures cut { result ≡ Err IoFault.Failed → (l : Logged) × (front : List Datagram) × CutSteps (plain_site site.now) now event l front
             (serving self.old.router (W.waiting wire.old)) (serving self.new.router (W.waiting wire.new))
             × Adds l front (D.words draw.old) (D.words draw.new) self.old self.new }
+        ensures starved { result ≡ Err IoFault.NoMemory → StarvesSteps (plain_site site.now) now event
+            (serving self.old.router (W.waiting wire.old)) (W.waiting wire.new) }
         ensures moment { OnOk result (self.new.router.moment ≡ now) }
         ensures caused { IsCaused (result ≡ Err IoFault.Failed) (W.faults wire.old) (W.faults wire.new)
             (W.never_fails wire.old) (W.never_fails wire.new) }
@@ -90,6 +92,8 @@ impl Node {
             × ((l : Logged) × (front : List Datagram) × CutSteps (plain_site site.now) now event l front
             (serving self.old.router (W.waiting wire.old)) (serving self.new.router (W.waiting wire.new))
             × Adds l front (D.words draw.old) (D.words draw.new) self.old self.new) }
+        ensures starved { result ≡ Err IoFault.NoMemory → (event : NodeEvent) × (taken ≡ Some event)
+            × StarvesSteps (plain_site site.now) now event (serving self.old.router (W.waiting wire.old)) (W.waiting wire.new) }
         ensures moment { OnOk result (self.new.router.moment ≤ now) }
         ensures caused { IsCaused (result ≡ Err IoFault.Failed) (W.faults wire.old) (W.faults wire.new)
             (W.never_fails wire.old) (W.never_fails wire.new) }
@@ -120,6 +124,8 @@ impl Node {
             × CutTurn (plain_site site.now) now entries handed
             (serving self.old.router (W.waiting wire.old)) (serving self.new.router (W.waiting wire.new))
             × Grows entries handed (D.words draw.old) (D.words draw.new) self.old self.new }
+        ensures starved { result ≡ Err IoFault.NoMemory → StarvesTurn (plain_site site.now) now
+            (serving self.old.router (W.waiting wire.old)) (W.waiting wire.new) }
         ensures moment { OnOk result (self.new.router.moment ≡ now) }
         ensures caused { IsCaused (result ≡ Err IoFault.Failed) (W.faults wire.old) (W.faults wire.new)
             (W.never_fails wire.old) (W.never_fails wire.new) }
@@ -150,6 +156,8 @@ impl Node {
             (serving self.old.router (W.waiting wire.old)) (serving self.new.router (W.waiting wire.new))
             (C.readings clock.old) (C.readings clock.new)
             × Grows log handed (D.words draw.old) (D.words draw.new) self.old self.new }
+        ensures starved { result ≡ Err IoFault.NoMemory → StarvesTurns (plain_site site.now) turns
+            (serving self.old.router (W.waiting wire.old)) (W.waiting wire.new) (C.readings clock.old) (C.readings clock.new) }
         ensures caused { IsCaused (result ≡ Err IoFault.Failed) (W.faults wire.old) (W.faults wire.new)
             (W.never_fails wire.old) (W.never_fails wire.new) }
     {

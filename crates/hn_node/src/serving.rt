@@ -1,9 +1,9 @@
-ghost use Rattle.std.specs.Prelude.{◌≡◌, ◌≤◌, ◌^◌, ◌-◌, List, All, IsTrue, IfOk, length, min, count_by};
+ghost use Rattle.std.specs.Prelude.{◌≡◌, ◌≤◌, ◌^◌, ◌-◌, List, All, IsTrue, IfOk, OnErr, length, min, count_by};
 ghost use Rattle.hn_base.specs.Words.{Took};
 ghost use Rattle.hn_io.specs.Faults.{IsCaused};
 ghost use Rattle.hn_own.specs.Ports.{is_attached};
 ghost use Rattle.hn_wire.specs.declared.datagram.Datagram.{Datagram};
-ghost use Rattle.hn_node.specs.Turns.{serving, handed_in, Turns, CutTurns, arrivals_in, is_tick, words_of, IsBounded, HasFailed};
+ghost use Rattle.hn_node.specs.Turns.{serving, handed_in, Turns, CutTurns, StarvesTurns, arrivals_in, is_tick, words_of, IsBounded, HasFailed};
 
 use crate::logged::Logged;
 use crate::node::Node;
@@ -48,7 +48,7 @@ fn served(node: Node, end: ServeEnd) -> Served
 ///
 /// # Errors
 ///
-/// Out of memory, but not where the count of faults of the wire rose. Nothing is said of what was sent and taken then.
+/// Out of memory, but not where the count of faults of the wire rose. What was sent and taken then is what turns send and take.
 pub fn serve<W: Wire, C: Clock, D: Draw>(
     alloc: Global,
     router: Router,
@@ -71,6 +71,8 @@ pub fn serve<W: Wire, C: Clock, D: Draw>(
         × CutTurns (record { port = port; peers = peers.now }) turns s.log handed
         (serving router (W.waiting wire.old)) (serving s.router (W.waiting wire.new)) (C.readings clock.old) (C.readings clock.new)
         × (s.sent ≡ min (length handed) (2 ^ 64 - 1))) }
+    ensures starved { OnErr result (StarvesTurns (record { port = port; peers = peers.now }) turns
+        (serving router (W.waiting wire.old)) (W.waiting wire.new) (C.readings clock.old) (C.readings clock.new)) }
     ensures taken { IfOk result (λ s. s.taken ≡ arrivals_in s.log) }
     ensures ticks { IfOk result (λ s. s.end ≡ ServeEnd.Turns → count_by is_tick s.log ≡ turns) }
     ensures words { IfOk result (λ s. Took (D.words draw.old) (words_of s.log) (D.words draw.new)) }

@@ -1,9 +1,9 @@
 //! A datagram is taken.
 
-ghost use Rattle.std.specs.Prelude.{◌≡◌, ◌≤◌, Err, Option, option_map, IfOk, IfSome};
+ghost use Rattle.std.specs.Prelude.{◌≡◌, ◌≤◌, ◌⊎◌, Err, Some, Option, option_map, IfOk, IfSome};
 ghost use Rattle.hn_io.specs.Faults.{IsCaused};
 ghost use Rattle.hn_wire.specs.Wires.{Arrived, TakesAt};
-ghost use Rattle.hn_node.specs.Turns.{arrival, address_of, TakesTurn, FailsToTake, IsShort};
+ghost use Rattle.hn_node.specs.Turns.{arrival, address_of, TakesTurn, FailsToTake, StarvesTaking, IsShort};
 ghost use Rattle.hn_node.specs.Steps.{plain_site};
 
 use crate::logged::NodeEvent;
@@ -47,6 +47,8 @@ fn take_at<W: Wire>(
         × TakesAt at got (W.waiting wire.old) (W.waiting wire.new) × (taken ≡ option_map (arrival multicast) got)) }
     ensures short { IfOk result (λ taken. IfSome taken IsShort) }
     ensures failed { result ≡ Err IoFault.Failed → W.waiting wire.new ≡ W.waiting wire.old }
+    ensures starved { result ≡ Err IoFault.NoMemory → (W.waiting wire.new ≡ W.waiting wire.old)
+        ⊎ ((got : Arrived) × TakesAt at (Some got) (W.waiting wire.old) (W.waiting wire.new)) }
     ensures caused { IsCaused (result ≡ Err IoFault.Failed) (W.faults wire.old) (W.faults wire.new)
         (W.never_fails wire.old) (W.never_fails wire.new) }
 {
@@ -70,6 +72,7 @@ pub(crate) fn take_turn<W: Wire>(
     ensures taken { IfOk result (λ taken. TakesTurn (plain_site site.now) taken (W.waiting wire.old) (W.waiting wire.new)) }
     ensures short { IfOk result (λ taken. IfSome taken IsShort) }
     ensures cut { result ≡ Err IoFault.Failed → FailsToTake (plain_site site.now) (W.waiting wire.old) (W.waiting wire.new) }
+    ensures starved { result ≡ Err IoFault.NoMemory → StarvesTaking (plain_site site.now) (W.waiting wire.old) (W.waiting wire.new) }
     ensures caused { IsCaused (result ≡ Err IoFault.Failed) (W.faults wire.old) (W.faults wire.new)
         (W.never_fails wire.old) (W.never_fails wire.new) }
 {

@@ -19,3 +19,17 @@ returns-in-Err-clause-cut g c = λ failed.
     let before = c.loop.invariant in
     cut_after (plain_site c.args.site.now) c.loop.counter _ _ _ c.now-now.result _ _ _ _ _ c.args.self.now c.loop.self _ before.so_far c.now-now.ensures.reading _ _
     (omega arith) (c.in-Err.ensures.cut failed)
+
+pub returns-in-Err-clause-starved : goal.returns-in-Err-clause-starved
+returns-in-Err-clause-starved g c = λ starved.
+    let past = c.loop.invariant.so_far in record {
+      made = c.loop.counter;
+      fewer = omega arith;
+      past = past.0;
+      between = _;
+      left = _;
+      whole = past.1;
+      now = c.now-now.result;
+      reads = c.now-now.ensures.reading;
+      starves = c.in-Err.ensures.starved starved;
+    }

@@ -2,7 +2,7 @@
 use Rattle.hn_base.proofs.Names.{◌≡◌, ◌∙◌, ◌⊎◌, ◌<◌, ◌≤◌, ◌-◌, ◌+◌, ℕ, true, List, [], ◌∷◌, length, None, Some, slice_get, inl, inr, refl, sym, ap, subst, arith, All-contains, same_Some}
 use Rattle.hn_base.proofs.Names.{slice_get-get_or}
 use Rattle.hn_audit.proofs.Names.{IsTrue, slice_set, contains_at, Passing, Note, State, MailCopy, Traced, WEvent, Member, Parts, refusal, IsReplayed, IsSoundMember, Does, IsResting, origin_of}
-use Rattle.hn_audit.proofs.Names.{AreHeardSince, ArePeersLinked, AreSendsHeard, GoesInTurns, GoesLossless, HasTicked, IsCalmSince, IsLosslessEvent, IsSteady, IsLastingUntil, IsReached, IsRunning}
+use Rattle.hn_audit.proofs.Names.{AreHeardSince, ArePeersLinked, AreSendsHeardSince, GoesInTurns, GoesLossless, HasTicked, IsCalmSince, IsLosslessEvent, IsSteady, IsLastingUntil, IsReached, IsRunning}
 use Rattle.hn_audit.proofs.Names.{UseSame, IsMemberAt, IsYoung}
 use Rattle.hn_world.specs.declared.event.WEvent.TheVariants as event
 use Rattle.hn_audit.specs.Lasting.{GoesInTimelyTurns, GoesTimely, IsLastingHome, IsTimelyEvent, LastingGoesInTurns, TicksAmong}
@@ -138,27 +138,28 @@ home_on until heard since place event before after r goes home over = record {
       (goes.keeps k m y both).0.0 (home.all m ran_before);
 }
 
-record GoesLasting (until heard since place : ℕ) (before : Parts) (ts : List Traced) (after : Parts) (timely : GoesTimely until heard since before ts after) : Type 0 where
+pub record GoesLasting (until heard since place : ℕ) (before : Parts) (ts : List Traced) (after : Parts) (timely : GoesTimely until heard since before ts after) : Type 0 where
   pub goes : GoesLossless heard since place before ts after
   pub ticked : (moment k : ℕ) → TicksAmong moment k until heard since before ts after timely → HasTicked moment k heard since place before ts after goes
   pub home : (next : Member) → slice_get after.members place ≡ Some next → IsLastingHome until after next
 
-turn_lasts : LastingLaws → (until heard since place : ℕ) (ts : List Traced) (before after : Parts) (r : Member) → IsReplayed before → slice_get before.members place ≡ Some r
-    → IsResting since before r → AreHeardSince heard before r → heard ≤ before.moment → ArePeersLinked before r → AreSendsHeard before r → IsLastingHome until before r
+pub turn_lasts : LastingLaws → (start until heard since place : ℕ) (ts : List Traced) (before after : Parts) (r : Member) → IsReplayed before → slice_get before.members place ≡ Some r
+    → IsResting since before r → AreHeardSince heard before r → heard ≤ before.moment → ArePeersLinked before r → AreSendsHeardSince start before r → IsLastingHome until before r
     → (timely : GoesTimely until heard since before ts after) → GoesLasting until heard since place before ts after timely
-turn_lasts laws until heard since place [] before after r replays at rest peers later linked sends home is = record {
+turn_lasts laws start until heard since place [] before after r replays at rest peers later linked sends home is = record {
   goes = is;
   ticked = λ moment k none. absurd none;
   home = λ next there.
       let at_end : slice_get after.members place ≡ Some r = ap (λ (w : Parts). slice_get w.members place) is ∙ at in
       subst (IsLastingHome until after) (same_Some r next (sym at_end ∙ there)) (subst (λ (w : Parts). IsLastingHome until w r) (sym is) home);
 }
-turn_lasts laws until heard since place (t ∷ ts) before after r replays at rest peers later linked sends home (between, (notes, step), timely, more) =
+turn_lasts laws start until heard since place (t ∷ ts) before after r replays at rest peers later linked sends home (between, (notes, step), timely, more) =
     let over = lasts_by laws until heard since t.event t.words notes before step.between between replays step.accepted (ap (λ (w : Parts). w.members) step.gives) step.does r rest peers home timely in
-    let one = one_round laws.turns.rounds heard since t notes before between replays step place r at rest peers later linked sends over.lossless in
+    let one = one_round laws.turns.rounds start heard since t notes before between replays step place r at rest peers later linked sends over.lossless in
     let on = one.heard_on in
     let goes = on.goes in
-    let further = turn_lasts laws until heard since place ts between after goes.next (replays_more laws.turns.rounds.heard.resting.next t notes before between replays step) goes.here.is goes.resting
+    let further = turn_lasts laws start until heard since place ts between after goes.next
+    (replays_more laws.turns.rounds.heard.resting.next t notes before between replays step) goes.here.is goes.resting
     on.peers on.later one.linked one.sends (home_on until heard since place t.event before between r goes home over) more in
     record {
       goes = (
@@ -186,7 +187,7 @@ turns_last laws [] until heard place before after r replays at calm home is = re
       subst (IsLastingHome until after) (same_Some r next (sym at_end ∙ there)) (subst (λ (w : Parts). IsLastingHome until w r) (sym is) home);
 }
 turns_last laws (turn ∷ turns) until heard place before after r replays at calm home (between, timely, ticked, none, past, more) =
-    let one = turn_lasts laws until heard (length before.copies) place turn.0 before between r replays at (rests_now before r calm.runs calm.settled calm.quiet calm.current)
+    let one = turn_lasts laws 0 until heard (length before.copies) place turn.0 before between r replays at (rests_now before r calm.runs calm.settled calm.quiet calm.current)
     calm.peers calm.later calm.linked calm.sends home timely in
     let ticks : (k : ℕ) (s x : Member) → slice_get before.members place ≡ Some s → slice_get before.members k ≡ Some x → IsReached before s x
     → HasTicked turn.1 k heard (length before.copies) place before turn.0 between one.goes = λ k s x at_s at_x reached. one.ticked turn.1 k (ticked k x at_x reached.runs.running) in
@@ -200,7 +201,7 @@ turns_last laws (turn ∷ turns) until heard place before after r replays at cal
     record { goes = (between, one.goes, ticks, empty, past, further.goes); home = further.home }
 
 pub lasting_goes_in_turns : LastingLaws → LastingGoesInTurns
-lasting_goes_in_turns laws turns until heard place before after r replays at calm home goes =
+lasting_goes_in_turns laws before replays turns until heard place after r at calm home goes =
     let last = turns_last laws turns until heard place before after r replays at calm home goes in
     let all = turns_over laws.turns turns heard place before after r replays at calm last.goes in
     ((all.over).next, (all.over).here, all.calm, (all.over).keeps, last.home (all.over).next (all.over).here.is)

@@ -16,6 +16,7 @@ mod BridgeVersions
 mod BridgeViews
 mod BridgeWorlds
 mod CalmDeliveries
+mod ComingCalm
 mod CopiesOnLinks
 mod CurrentCopies
 mod Disturbing

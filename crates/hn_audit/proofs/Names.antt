@@ -10,11 +10,11 @@ pub use Rattle.hn_assign.specs.declared.assigned.Wish.{Wish}
 pub use Rattle.hn_assign.specs.declared.held.Held.{Held}
 pub use Rattle.hn_assign.specs.declared.held.Ran.{Ran}
 pub use Rattle.hn_assign.specs.declared.pair.Pair.{Pair}
-pub use Rattle.hn_audit.specs.Calm.{AreCurrent, IsCalmArrival, IsCurrent, IsRestfulEvent, IsResting, origin_of}
+pub use Rattle.hn_audit.specs.Calm.{AreCurrent, IsRestfulEvent, IsResting}
 pub use Rattle.hn_audit.specs.First.{FindsOne, IsFirstFound, IsFoundOf, OrElse}
 pub use Rattle.hn_audit.specs.FirstWitness.{AreSaid, FindsAct, FindsAlike, FindsHeld, FindsId, FindsKnown, FindsNear, FindsOfPeers, FindsOfRouter, FindsOnLinks, FindsReach, FindsRestless}
 pub use Rattle.hn_audit.specs.FirstWitness.{FindsStranger, FindsUnasked, FindsUnseen, FindsUntrue, FindsUsed, IsFirstUnquiet, IsFirstUnsettled, IsSeenPair, IsTrueOf, act_of, unheld_of}
-pub use Rattle.hn_audit.specs.Heard.{AreDelivered, AreHeardSince, ArePeersLinked, AreSendsHeard, GoesInTurns, GoesLossless, HasTicked, IsCalmSince, IsLosslessEvent, IsSteady, IsSteadyEvent}
+pub use Rattle.hn_audit.specs.Heard.{AreDelivered, AreHeardSince, ArePeersLinked, AreSendsHeard, AreSendsHeardSince, GoesInTurns, GoesLossless, HasTicked, IsCalmSince, IsLosslessEvent, IsSteady, IsSteadyEvent}
 pub use Rattle.hn_audit.specs.Lasting.{IsLastingUntil}
 pub use Rattle.hn_audit.specs.Laws.{AnewHasARun, RestHasARun, WitnessNamesRestless}
 pub use Rattle.hn_audit.specs.Quiet.{IsQuiet, IsRouterAtRest}
@@ -22,7 +22,7 @@ pub use Rattle.hn_audit.specs.Reached.{AreOnOneLink, IsOfOne, IsOnLink, IsReache
 pub use Rattle.hn_audit.specs.Set.{AreSameAt, PlainSpot, is_in_set, members_of, plain_spot, plain_spots, set_of, spot_at, spots_in}
 pub use Rattle.hn_audit.specs.Settled.{AreLinked, AreSame, HoldsState, IsSameEndpoint, IsSettled, UseSame}
 pub use Rattle.hn_audit.specs.Sound.{IsHeldOn, IsPostOn, IsServedLink, IsSound, IsThere, IsWithout, Joint, Link, Private, Uses}
-pub use Rattle.hn_audit.specs.Staying.{IsMemberAt, IsRestful, KeepAssignments}
+pub use Rattle.hn_audit.specs.Staying.{IsCalmArrival, IsCurrent, origin_of, IsMemberAt, IsRestful, KeepAssignments}
 pub use Rattle.hn_audit.specs.Witness.{Disturbs, IsOfSet, Refutes}
 pub use Rattle.hn_audit.specs.declared.spots.Spot.{Spot}
 pub use Rattle.hn_audit.specs.declared.witness.Unquiet.{Unquiet}

@@ -3,7 +3,7 @@ use Rattle.hn_base.proofs.Names.{◌≡◌, ◌≢◌, ◌∙◌, ◌⊎◌, ◌
 use Rattle.hn_base.proofs.Names.{subst, arith, ◌||◌, option_map, option_map_or, cases_eq, All-contains, same_Some, slice_get-get_or, slice_get_within}
 use Rattle.hn_audit.proofs.Names.{slice_set, Contains-map, Contains-from_map, contains_at, EpId, NodeId, ListIsUnique, ItemIsUnique, Neighbour, Port, port_at, endpoints_of, is_attached, Passing, Done}
 use Rattle.hn_audit.proofs.Names.{Note, Outgoing, State, after_passing, IsStatusUpdate, IsStatusSend, MailCopy, Target, Traced, WEvent, Attachment, Member, Parts, copies_of, is_of, IsReplayed}
-use Rattle.hn_audit.proofs.Names.{IsSoundMember, IsAttachedMember, Does, Step, origin_of, IsResting, IsRestfulEvent, AreHeardSince, IsSteadyEvent, ArePeersLinked, AreSendsHeard, IsLosslessEvent}
+use Rattle.hn_audit.proofs.Names.{IsSoundMember, IsAttachedMember, Does, Step, origin_of, IsResting, IsRestfulEvent, AreHeardSince, IsSteadyEvent, ArePeersLinked, AreSendsHeardSince, IsLosslessEvent}
 use Rattle.hn_audit.proofs.Names.{GoesLossless, AreDelivered, IsRunning, IsReached, IsOnLink, AreOnOneLink, IsMemberAt, IsRestful, KeepAssignments, IsQuiet, IsSettled, AreAssignmentsUnchanged, Name}
 use Rattle.std.specs.List.{find}
 use Rattle.hn_rules.specs.Router.{IsPortPast}
@@ -86,12 +86,13 @@ module _ (before after : Parts) where
     contact = inr (refl, on);
   }
 
-  module _ (since place : ℕ) (r : Member) (goes : GoesOn since place before after r) (sound : (m : Member) → Contains before.members m → IsSoundMember before.moment m) (sends : AreSendsHeard before r)
+  module _ (start since place : ℕ) (r : Member) (goes : GoesOn since place before after r)
+      (sound : (m : Member) → Contains before.members m → IsSoundMember before.moment m) (sends : AreSendsHeardSince start before r)
       (each_sent : (i : ℕ) (xm x : Member) (p : Port) → IsMemberAt i before after xm x → IsReached before r xm → IsReached after goes.next x → Contains x.router.ports p → SentCase xm x p)
       (each_peer : (j : ℕ) (ym y : Member) (q : Port) (peer : Neighbour) → IsMemberAt j before after ym y → IsReached before r ym → Contains y.router.ports q → Contains q.peers peer
       → PeerCase j ym q peer) where
-    sends_on : AreSendsHeard after goes.next
-    sends_on i j x y p q peer at_i at_j x_in y_in p_in q_in peer_in node endpoint other link =
+    sends_on : AreSendsHeardSince start after goes.next
+    sends_on i j x y p q peer at_i at_j x_in y_in p_in q_in peer_in node endpoint other link late =
         let (xm, x_both) = goes.was i x at_i in
         let (ym, y_both) = goes.was j y at_j in
         let x_was : IsReached before r xm = (goes.keeps i xm x x_both).0.1 x_in in
@@ -109,7 +110,7 @@ module _ (before after : Parts) where
         elim s.sent [
           | inl same ↦ elim c.contact [
             | inl now ↦ inl (omega (arith, same, now, not_after, then))
-            | inr (still, on) ↦ elim known [
+            | inr (still, on) ↦ elim (known (omega (arith, same, late))) [
               | inl le ↦ inl (omega (arith, same, still, le))
               | inr way ↦ inr (on (rename_way before j c.was.id q.id c.old.node peer.node c.old.endpoint peer.endpoint (sym c.id) (sym c.node) (sym c.endpoint) way))
             ]
@@ -149,8 +150,8 @@ pub record RoundLaws : Type 0 where
   pub items : ItemIsUnique
   pub attached : PeersAreAttached
 
-module _ (laws : RoundLaws) (since place : ℕ) (before between after : Parts) (replays : IsReplayed before) (replays_after : IsReplayed after) (same : after.members ≡ between.members)
-    (copies : after.copies ≡ between.copies) (r : Member) (rest : IsResting since before r) (goes : GoesOn since place before after r) (sends : AreSendsHeard before r) where
+module _ (laws : RoundLaws) (start since place : ℕ) (before between after : Parts) (replays : IsReplayed before) (replays_after : IsReplayed after) (same : after.members ≡ between.members)
+    (copies : after.copies ≡ between.copies) (r : Member) (rest : IsResting since before r) (goes : GoesOn since place before after r) (sends : AreSendsHeardSince start before r) where
   all_sound : (m : Member) → Contains before.members m → IsSoundMember before.moment m
   all_sound m there = All-contains (IsSoundMember before.moment) before.members m (laws.heard.resting.calm.stay.worlds.sound before replays) there
 
@@ -158,18 +159,18 @@ module _ (laws : RoundLaws) (since place : ℕ) (before between after : Parts) (
   known_then = known_of laws.heard.resting.calm.stay.worlds after goes.next replays_after goes.resting.runs goes.resting.settled
 
   -- time passes
-  sends_over_time : after.members ≡ before.members → after.copies ≡ before.copies → AreSendsHeard after goes.next
+  sends_over_time : after.members ≡ before.members → after.copies ≡ before.copies → AreSendsHeardSince start after goes.next
   sends_over_time members_same copies_same =
       let one : (k : ℕ) (m then : Member) → IsMemberAt k before after m then → m ≡ then = λ k m then at.
       same_Some m then (sym at.was ∙ ap (λ (members : List Member). slice_get members k) (sym members_same) ∙ at.is) in
-      sends_on before after since place r goes all_sound sends
+      sends_on before after start since place r goes all_sound sends
       (λ i xm x p at was_in x_in p_in. same_sent before after xm x (one i xm x at) p p_in)
       (λ j ym y q peer at y_in q_in peer_in. same_peer before after j ym y (one j ym y at) q peer q_in peer_in
       (way_on before after j q.id peer.node peer.endpoint (λ k mail there. ap (λ (list : List MailCopy). slice_get list k) copies_same ∙ there)))
 
   -- a copy is dropped that goes to nobody of the set
   sends_over_drop : (copy : ℕ) (words : List ℕ) (notes : List Note) → Does (event.Drop copy) words notes before between → (heard : ℕ) → IsLosslessEvent heard since (event.Drop copy) before after r
-      → AreSendsHeard after goes.next
+      → AreSendsHeardSince start after goes.next
   sends_over_drop copy words notes does heard lossless =
       let mail = does.mail in
       let gone : MailCopy = record mail { waiting = false } in
@@ -177,7 +178,7 @@ module _ (laws : RoundLaws) (since place : ℕ) (before between after : Parts) (
       let made_now : after.copies ≡ slice_set before.copies (copy - 1) gone = copies ∙ ap (λ (w : Parts). w.copies) does.quietly.gives in
       let one : (k : ℕ) (m then : Member) → IsMemberAt k before after m then → m ≡ then = λ k m then at.
       same_Some m then (sym at.was ∙ ap (λ (members : List Member). slice_get members k) (sym members_same) ∙ at.is) in
-      sends_on before after since place r goes all_sound sends
+      sends_on before after start since place r goes all_sound sends
       (λ i xm x p at was_in x_in p_in. same_sent before after xm x (one i xm x at) p p_in)
       (λ j ym y q peer at y_in q_in peer_in. same_peer before after j ym y (one j ym y at) q peer q_in peer_in (λ u.
       let elsewhere : u.k ≢ copy - 1 = λ is.
@@ -200,7 +201,7 @@ module _ (laws : RoundLaws) (since place : ℕ) (before between after : Parts) (
 
   -- a router ticks
   sends_over_tick : (name : Name) (words : List ℕ) (notes : List Note) → Does (event.Tick name) words notes before between → IsRestfulEvent since (event.Tick name) before after r
-      → AreSendsHeard after goes.next
+      → AreSendsHeardSince start after goes.next
   sends_over_tick name words notes does calm =
       let acts = does.acts in
       let m0 = acts.member in
@@ -244,7 +245,7 @@ module _ (laws : RoundLaws) (since place : ℕ) (before between after : Parts) (
         hash = n.net;
         update = update;
       } in
-      sends_on before after since place r goes all_sound sends
+      sends_on before after start since place r goes all_sound sends
       (λ i xm x p at was_in x_in p_in. elim (which_at before after a m0 next_x acts.is_member gives i xm x at) [
         | inl (is, was, now) ↦
             let reached : IsReached before r m0 = subst (IsReached before r) was was_in in
@@ -282,7 +283,7 @@ module _ (laws : RoundLaws) (since place : ℕ) (before between after : Parts) (
 
   -- a copy is delivered
   sends_over_delivery : (copy : ℕ) (words : List ℕ) (notes : List Note) → Does (event.Deliver copy) words notes before between → IsRestfulEvent since (event.Deliver copy) before after r
-      → AreSendsHeard after goes.next
+      → AreSendsHeardSince start after goes.next
   sends_over_delivery copy words notes does calm =
       let acts = does.acts in
       let mail = does.mail in
@@ -320,7 +321,7 @@ module _ (laws : RoundLaws) (since place : ℕ) (before between after : Parts) (
         hash = u.hash;
         update = u.update;
       } in
-      sends_on before after since place r goes all_sound sends
+      sends_on before after start since place r goes all_sound sends
       (λ i xm x p at was_in x_in p_in. elim (which_at before after a m0 next_x acts.is_member gives i xm x at) [
         | inl (is, was, now) ↦
             let reached : IsReached before r m0 = subst (IsReached before r) was was_in in
@@ -361,20 +362,20 @@ module _ (laws : RoundLaws) (since place : ℕ) (before between after : Parts) (
             other (sym (ap (λ (t : Target). t.place) u.goes_to) ∙ ap (λ (c : MailCopy). c.to.place) this)))
       ])
 
-sends_by : RoundLaws → (since place : ℕ) (event : WEvent) (words : List ℕ) (notes : List Note) (before between after : Parts) → IsReplayed before → IsReplayed after
+sends_by : RoundLaws → (start since place : ℕ) (event : WEvent) (words : List ℕ) (notes : List Note) (before between after : Parts) → IsReplayed before → IsReplayed after
     → after.members ≡ between.members → after.copies ≡ between.copies → Does event words notes before between → (r : Member) → IsResting since before r
-    → (heard : ℕ) → IsLosslessEvent heard since event before after r → IsRestfulEvent since event before after r → (goes : GoesOn since place before after r) → AreSendsHeard before r
-    → AreSendsHeard after goes.next
-sends_by laws since place (event.Time moment) words notes before between after replays replays_after same copies does r rest heard lossless calm goes sends =
-    sends_over_time laws since place before between after replays replays_after same copies r rest goes sends (same ∙ ap (λ (w : Parts). w.members) does.gives)
+    → (heard : ℕ) → IsLosslessEvent heard since event before after r → IsRestfulEvent since event before after r → (goes : GoesOn since place before after r) → AreSendsHeardSince start before r
+    → AreSendsHeardSince start after goes.next
+sends_by laws start since place (event.Time moment) words notes before between after replays replays_after same copies does r rest heard lossless calm goes sends =
+    sends_over_time laws start since place before between after replays replays_after same copies r rest goes sends (same ∙ ap (λ (w : Parts). w.members) does.gives)
     (copies ∙ ap (λ (w : Parts). w.copies) does.gives)
-sends_by laws since place (event.Tick name) words notes before between after replays replays_after same copies does r rest heard lossless calm goes sends =
-    sends_over_tick laws since place before between after replays replays_after same copies r rest goes sends name words notes does calm
-sends_by laws since place (event.Deliver copy) words notes before between after replays replays_after same copies does r rest heard lossless calm goes sends =
-    sends_over_delivery laws since place before between after replays replays_after same copies r rest goes sends copy words notes does calm
-sends_by laws since place (event.Drop copy) words notes before between after replays replays_after same copies does r rest heard lossless calm goes sends =
-    sends_over_drop laws since place before between after replays replays_after same copies r rest goes sends copy words notes does heard lossless
-sends_by laws since place _ words notes before between after replays replays_after same copies does r rest heard lossless calm goes sends = absurd calm
+sends_by laws start since place (event.Tick name) words notes before between after replays replays_after same copies does r rest heard lossless calm goes sends =
+    sends_over_tick laws start since place before between after replays replays_after same copies r rest goes sends name words notes does calm
+sends_by laws start since place (event.Deliver copy) words notes before between after replays replays_after same copies does r rest heard lossless calm goes sends =
+    sends_over_delivery laws start since place before between after replays replays_after same copies r rest goes sends copy words notes does calm
+sends_by laws start since place (event.Drop copy) words notes before between after replays replays_after same copies does r rest heard lossless calm goes sends =
+    sends_over_drop laws start since place before between after replays replays_after same copies r rest goes sends copy words notes does heard lossless
+sends_by laws start since place _ words notes before between after replays replays_after same copies does r rest heard lossless calm goes sends = absurd calm
 
 -- ---- peers stay linked
 
@@ -420,15 +421,15 @@ pub steady_of : (heard since : ℕ) (event : WEvent) (before after : Parts) (r :
 steady_of heard since (event.Drop copy) before after r lossless = tt
 steady_of heard since _ before after r lossless = lossless
 
-pub record GoesRound (heard since place : ℕ) (before after : Parts) (r : Member) : Type 0 where
+pub record GoesRound (start heard since place : ℕ) (before after : Parts) (r : Member) : Type 0 where
   pub heard_on : GoesHeard heard since place before after r
   pub linked : ArePeersLinked after (heard_on.goes).next
-  pub sends : AreSendsHeard after (heard_on.goes).next
+  pub sends : AreSendsHeardSince start after (heard_on.goes).next
 
-pub one_round : RoundLaws → (heard since : ℕ) (t : Traced) (notes : List Note) (before after : Parts) → IsReplayed before → Step t notes before after
+pub one_round : RoundLaws → (start heard since : ℕ) (t : Traced) (notes : List Note) (before after : Parts) → IsReplayed before → Step t notes before after
     → (place : ℕ) (r : Member) → slice_get before.members place ≡ Some r → IsResting since before r → AreHeardSince heard before r → heard ≤ before.moment
-    → ArePeersLinked before r → AreSendsHeard before r → IsLosslessEvent heard since t.event before after r → GoesRound heard since place before after r
-one_round laws heard since t notes before after replays step place r at rest peers later linked sends lossless =
+    → ArePeersLinked before r → AreSendsHeardSince start before r → IsLosslessEvent heard since t.event before after r → GoesRound start heard since place before after r
+one_round laws start heard since t notes before after replays step place r at rest peers later linked sends lossless =
     let steady = steady_of heard since t.event before after r lossless in
     let calm = restful_by laws.heard heard since t.event before after r replays rest peers steady in
     let one = one_heard laws.heard heard since t notes before after replays step place r at rest peers later steady in
@@ -443,22 +444,23 @@ one_round laws heard since t notes before after replays step place r at rest pee
       linked = linked_on before after since place r one.goes
           (λ m there. All-contains (IsSoundMember before.moment) before.members m (worlds.sound before replays) there) known.attached known_then.attached
           (hears_by laws.heard since t.event t.words notes before step.between after replays same step.does r rest calm) linked;
-      sends = sends_by laws since place t.event t.words notes before step.between after replays replays_after same copies step.does r rest heard lossless calm one.goes sends;
+      sends = sends_by laws start since place t.event t.words notes before step.between after replays replays_after same copies step.does r rest heard lossless calm one.goes sends;
     }
 
-all_rounds : RoundLaws → (heard since place : ℕ) (ts : List Traced) (before after : Parts) (r : Member) → IsReplayed before → slice_get before.members place ≡ Some r → IsResting since before r
-    → AreHeardSince heard before r → heard ≤ before.moment → ArePeersLinked before r → AreSendsHeard before r → GoesLossless heard since place before ts after
-    → GoesRound heard since place before after r
-all_rounds laws heard since place [] before after r replays at rest peers later linked sends is =
-    subst (λ (w : Parts). GoesRound heard since place before w r) (sym is) (record {
+pub all_rounds : RoundLaws → (start heard since place : ℕ) (ts : List Traced) (before after : Parts) (r : Member) → IsReplayed before → slice_get before.members place ≡ Some r → IsResting since before r
+    → AreHeardSince heard before r → heard ≤ before.moment → ArePeersLinked before r → AreSendsHeardSince start before r → GoesLossless heard since place before ts after
+    → GoesRound start heard since place before after r
+all_rounds laws start heard since place [] before after r replays at rest peers later linked sends is =
+    subst (λ (w : Parts). GoesRound start heard since place before w r) (sym is) (record {
       heard_on = record { goes = nothing_goes since place before r at rest; peers = peers; later = later };
       linked = linked;
       sends = sends;
     })
-all_rounds laws heard since place (t ∷ ts) before after r replays at rest peers later linked sends (between, (notes, step), lossless, more) =
-    let first = one_round laws heard since t notes before between replays step place r at rest peers later linked sends (lossless r at) in
+all_rounds laws start heard since place (t ∷ ts) before after r replays at rest peers later linked sends (between, (notes, step), lossless, more) =
+    let first = one_round laws start heard since t notes before between replays step place r at rest peers later linked sends (lossless r at) in
     let one = first.heard_on in
-    let second = all_rounds laws heard since place ts between after (one.goes).next (replays_more laws.heard.resting.next t notes before between replays step) (one.goes).here.is (one.goes).resting
+    let second = all_rounds laws start heard since place ts between after (one.goes).next
+    (replays_more laws.heard.resting.next t notes before between replays step) (one.goes).here.is (one.goes).resting
     one.peers one.later first.linked first.sends more in
     let two = second.heard_on in
     record {
@@ -468,8 +470,8 @@ all_rounds laws heard since place (t ∷ ts) before after r replays at rest peer
     }
 
 -- once all is delivered, peers were heard since each endpoint sent
-pub heard_since : (w : Parts) (r : Member) → ArePeersLinked w r → AreSendsHeard w r → (sent : ℕ) → AreDelivered sent w r → AreHeardSince sent w r
-heard_since w r linked sends sent delivered y q peer reached q_in peer_in =
+pub heard_since : (start : ℕ) (w : Parts) (r : Member) → ArePeersLinked w r → AreSendsHeardSince start w r → (sent : ℕ) → start ≤ sent → AreDelivered sent w r → AreHeardSince sent w r
+heard_since start w r linked sends sent late delivered y q peer reached q_in peer_in =
     let l = linked y q peer reached q_in peer_in in
     let (i, within_i, is_i) = l.reached.runs.there in
     let (j, within_j, is_j) = reached.runs.there in
@@ -477,7 +479,7 @@ heard_since w r linked sends sent delivered y q peer reached q_in peer_in =
     let at_j : slice_get w.members j ≡ Some y = slice_get-get_or w.members j y within_j ∙ ap Some is_j in
     let le = delivered.sends l.x l.port l.reached l.there in (
       subst (Contains r.router.reach) (sym l.node) l.reached.reached,
-      elim (sends i j l.x y l.port q peer at_i at_j l.reached reached l.there q_in peer_in l.node l.endpoint l.other l.link) [
+      elim (sends i j l.x y l.port q peer at_i at_j l.reached reached l.there q_in peer_in l.node l.endpoint l.other l.link (omega (arith, le, late))) [
         | inl contact ↦ omega (arith, le, contact)
         | inr u ↦ absurd (delivered.none_waits u.k u.mail y u.there (ap (λ (t : Target). slice_get w.members t.place) u.goes_to ∙ at_j) reached u.waits)
       ],
@@ -496,19 +498,19 @@ rests_now before r runs settled quiet waiting = record {
 }
 
 -- a whole round
-pub one_whole : RoundLaws → (heard : ℕ) (ts : List Traced) (place : ℕ) (before after : Parts) (r : Member) → IsReplayed before → slice_get before.members place ≡ Some r
+pub one_whole : RoundLaws → (start heard : ℕ) (ts : List Traced) (place : ℕ) (before after : Parts) (r : Member) → IsReplayed before → slice_get before.members place ≡ Some r
     → IsRunning before r → IsSettled before r → IsQuiet before r → AreWaitingCurrent before r
-    → heard ≤ before.moment → AreHeardSince heard before r → ArePeersLinked before r → AreSendsHeard before r
-    → GoesLossless heard (length before.copies) place before ts after → GoesRound heard (length before.copies) place before after r
-one_whole laws heard ts place before after r replays at runs settled quiet waiting later peers linked sends goes =
-    all_rounds laws heard (length before.copies) place ts before after r replays at (rests_now before r runs settled quiet waiting) peers later linked sends goes
+    → heard ≤ before.moment → AreHeardSince heard before r → ArePeersLinked before r → AreSendsHeardSince start before r
+    → GoesLossless heard (length before.copies) place before ts after → GoesRound start heard (length before.copies) place before after r
+one_whole laws start heard ts place before after r replays at runs settled quiet waiting later peers linked sends goes =
+    all_rounds laws start heard (length before.copies) place ts before after r replays at (rests_now before r runs settled quiet waiting) peers later linked sends goes
 
 pub still_waiting : (since : ℕ) (w : Parts) (r : Member) → IsResting since w r → AreWaitingCurrent w r
 still_waiting since w r rest k mail y waits there to reached = rest.current k mail y (inl waits) there to reached
 
 pub round_renews : RoundLaws → RoundRenews
 round_renews laws heard ts place before after r replays at runs settled quiet waiting later peers linked sends goes =
-    let all = one_whole laws heard ts place before after r replays at runs settled quiet waiting later peers linked sends goes in
+    let all = one_whole laws 0 heard ts place before after r replays at runs settled quiet waiting later peers linked sends goes in
     let on = all.heard_on in
     let next = (on.goes).next in (
       next,
@@ -520,7 +522,7 @@ round_renews laws heard ts place before after r replays at runs settled quiet wa
       all.linked,
       all.sends,
       still_waiting (length before.copies) after next (on.goes).resting,
-      heard_since after next all.linked all.sends,
+      λ sent delivered. heard_since 0 after next all.linked all.sends sent (omega arith) delivered,
     )
 
 -- ---- round after round
@@ -577,13 +579,13 @@ more_rounds since place before between after r at one rest = record {
 
 goes_over : RoundLaws → (rounds : List (List Traced × ℕ)) (heard place : ℕ) (before after : Parts) (r : Member) → IsReplayed before → slice_get before.members place ≡ Some r
     → IsRunning before r → IsSettled before r → IsQuiet before r → AreWaitingCurrent before r
-    → heard ≤ before.moment → AreHeardSince heard before r → ArePeersLinked before r → AreSendsHeard before r
+    → heard ≤ before.moment → AreHeardSince heard before r → ArePeersLinked before r → AreSendsHeardSince 0 before r
     → GoesInRounds heard place before rounds after → GoesOver place before after r
 goes_over laws [] heard place before after r replays at runs settled quiet waiting later peers linked sends is = no_rounds place before after r at settled quiet is
 goes_over laws (round ∷ rounds) heard place before after r replays at runs settled quiet waiting later peers linked sends (between, goes, delivered, past, more) =
-    let all = one_whole laws heard round.0 place before between r replays at runs settled quiet waiting later peers linked sends goes in
+    let all = one_whole laws 0 heard round.0 place before between r replays at runs settled quiet waiting later peers linked sends goes in
     let one = (all.heard_on).goes in
-    let since = heard_since between one.next all.linked all.sends round.1 (delivered one.next one.here.is) in
+    let since = heard_since 0 between one.next all.linked all.sends round.1 (omega arith) (delivered one.next one.here.is) in
     let rest = goes_over laws rounds round.1 place between after one.next (replays_all laws heard (length before.copies) place round.0 before between replays goes) one.here.is
     one.resting.runs one.resting.settled one.resting.quiet (still_waiting (length before.copies) between one.next one.resting) past since all.linked all.sends more in
     more_rounds (length before.copies) place before between after r at one rest

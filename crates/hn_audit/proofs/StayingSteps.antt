@@ -8,6 +8,8 @@ use Rattle.hn_rules.specs.Rested.{KeepsId}
 use Rattle.hn_router.specs.Act.{Happened}
 use Rattle.hn_world.specs.declared.event.WEvent.TheVariants as event
 use Rattle.hn_world.specs.Laws.{EachEventIsAStep}
+use Rattle.hn_world.specs.Step.{Step}
+use Rattle.hn_audit.specs.Calm.{QuietStaysOverDeliveries}
 use Rattle.hn_audit.specs.Staying.{QuietStays, QuietHomesStay, QuietHomesAlwaysStay}
 use Rattle.hn_audit.proofs.BridgeSets.{itself}
 use Rattle.hn_audit.proofs.BridgeWorlds.{WorldLaws, known_of}
@@ -206,16 +208,20 @@ stays_tick laws name words notes before between after replays same does place r 
     in
     stays_where_still laws before after replays place r next here runs settled quiet (tick_still before after does.place x n acts.is_member gives r settled quiet id still)
 
-stays_by : StayLaws → (event : WEvent) (words : List ℕ) (notes : List Note) (before between after : Parts) → IsReplayed before → after.members ≡ between.members
-    → Does event words notes before between → QuietStays event before after
-stays_by laws (event.Time moment) words notes before between after replays same does place r next here runs settled quiet calm =
-    stays_where_still laws before after replays place r next here runs settled quiet (still_later before after (same ∙ ap (λ (w : Parts). w.members) does.gives) r settled quiet)
-stays_by laws (event.Tick name) words notes before between after replays same does place r next here runs settled quiet calm =
-    stays_tick laws name words notes before between after replays same does place r next here runs settled quiet calm
-stays_by laws _ words notes before between after replays same does place r next here runs settled quiet calm = absurd calm
+-- the laws of a quiet home, and that it stays over deliveries
+stays_by : StayLaws → QuietStaysOverDeliveries → (event : WEvent) (words : List ℕ) (notes : List Note) (before after : Parts) → IsReplayed before
+    → Step (record { event = event; words = words }) notes before after → QuietStays event before after
+stays_by laws over (event.Time moment) words notes before after replays step place r next here runs settled quiet calm =
+    let same : after.members ≡ before.members = ap (λ (w : Parts). w.members) step.gives ∙ ap (λ (w : Parts). w.members) step.does.gives in
+    stays_where_still laws before after replays place r next here runs settled quiet (still_later before after same r settled quiet)
+stays_by laws over (event.Tick name) words notes before after replays step place r next here runs settled quiet calm =
+    stays_tick laws name words notes before step.between after replays (ap (λ (w : Parts). w.members) step.gives) step.does place r next here runs settled quiet calm
+stays_by laws over (event.Deliver copy) words notes before after replays step place r next here runs settled quiet calm =
+    over copy words notes before after replays step place r next here runs settled quiet calm
+stays_by laws over _ words notes before after replays step place r next here runs settled quiet calm = absurd calm
 
-pub quiet_stays : StayLaws → QuietHomesStay
-quiet_stays laws t notes before after replays step = stays_by laws t.event t.words notes before step.between after replays (ap (λ (w : Parts). w.members) step.gives) step.does
+pub quiet_stays : StayLaws → QuietStaysOverDeliveries → QuietHomesStay
+quiet_stays laws over t notes before after replays step = stays_by laws over t.event t.words notes before after replays step
 
 -- ---- over each event of a trace
 

@@ -2,7 +2,7 @@
 use Rattle.hn_base.proofs.Names.{◌≡◌, ◌∙◌, ◌⊎◌, ◌<◌, ◌≤◌, ◌-◌, ◌+◌, ℕ, true, List, [], ◌∷◌, length, Some, Contains, slice_get, inl, inr, refl, sym, ap, subst, arith, All-contains, same_Some}
 use Rattle.hn_base.proofs.Names.{slice_get-get_or}
 use Rattle.hn_audit.proofs.Names.{slice_set, contains_at, Port, port_at, Passing, Note, State, after_passing, Traced, WEvent, Member, Parts, IsReplayed, IsSoundMember, Does, IsCalmArrival, IsResting}
-use Rattle.hn_audit.proofs.Names.{IsRestfulEvent, AreHeardSince, ArePeersLinked, IsCalmSince, AreSendsHeard, GoesLossless, AreDelivered, HasTicked, GoesInTurns, IsReached, IsMemberAt, IsRestful}
+use Rattle.hn_audit.proofs.Names.{IsRestfulEvent, AreHeardSince, ArePeersLinked, IsCalmSince, AreSendsHeardSince, GoesLossless, AreDelivered, HasTicked, GoesInTurns, IsReached, IsMemberAt, IsRestful}
 use Rattle.hn_rules.specs.Updates.{TicksHaveSent}
 use Rattle.hn_world.specs.declared.event.WEvent.TheVariants as event
 use Rattle.hn_audit.specs.Heard.{heard_after, TicksAt, RestGoesInTurns}
@@ -97,7 +97,7 @@ sent_by laws since _ words notes before between after replays same does r rest c
 -- ---- an endpoint that sent lately
 
 -- each endpoint of the router of a place sent less than 20 s before that moment, or later
-abbrev AreLate : ℕ → ℕ → Parts → Member → Type 0
+abbrev pub AreLate : ℕ → ℕ → Parts → Member → Type 0
 AreLate moment k w r = (x : Member) (p : Port) → slice_get w.members k ≡ Some x → IsReached w r x → Contains x.router.ports p → moment < p.sent + 20000
 
 late_on : (moment k since place : ℕ) (before after : Parts) (r : Member) (goes : GoesOn since place before after r) → EachSentOn before after r → moment ≤ before.moment
@@ -139,20 +139,21 @@ late_tick laws moment k since place _ words notes before between after replays s
 
 -- ---- a turn
 
-record EndsLate (moment k place : ℕ) (after : Parts) : Type 0 where
+pub record EndsLate (moment k place : ℕ) (after : Parts) : Type 0 where
   pub next : Member
   pub here : slice_get after.members place ≡ Some next
   pub late : AreLate moment k after next
 
-ends_late : TurnLaws → (moment k heard since place : ℕ) (ts : List Traced) (before after : Parts) (r : Member) → IsReplayed before → slice_get before.members place ≡ Some r → IsResting since before r
-    → AreHeardSince heard before r → heard ≤ before.moment → ArePeersLinked before r → AreSendsHeard before r → (goes : GoesLossless heard since place before ts after)
+pub ends_late : TurnLaws → (start moment k heard since place : ℕ) (ts : List Traced) (before after : Parts) (r : Member) → IsReplayed before
+    → slice_get before.members place ≡ Some r → IsResting since before r
+    → AreHeardSince heard before r → heard ≤ before.moment → ArePeersLinked before r → AreSendsHeardSince start before r → (goes : GoesLossless heard since place before ts after)
     → ((moment ≤ before.moment) × AreLate moment k before r) ⊎ HasTicked moment k heard since place before ts after goes → EndsLate moment k place after
-ends_late laws moment k heard since place [] before after r replays at rest peers later linked sends is known = elim known [
+ends_late laws start moment k heard since place [] before after r replays at rest peers later linked sends is known = elim known [
   | inl now ↦ subst (EndsLate moment k place) (sym is) (record { next = r; here = at; late = now.1 })
   | inr none ↦ absurd none
 ]
-ends_late laws moment k heard since place (t ∷ ts) before after r replays at rest peers later linked sends (between, (notes, step), lossless, more) known =
-    let first = one_round laws.rounds heard since t notes before between replays step place r at rest peers later linked sends (lossless r at) in
+ends_late laws start moment k heard since place (t ∷ ts) before after r replays at rest peers later linked sends (between, (notes, step), lossless, more) known =
+    let first = one_round laws.rounds start heard since t notes before between replays step place r at rest peers later linked sends (lossless r at) in
     let one = first.heard_on in
     let goes = one.goes in
     let same : between.members ≡ (step.between).members = ap (λ (w : Parts). w.members) step.gives in
@@ -171,7 +172,7 @@ ends_late laws moment k heard since place (t ∷ ts) before after r replays at r
         | inr further ↦ inr further
       ]
     ] in
-    ends_late laws moment k heard since place ts between after goes.next (replays_more laws.rounds.heard.resting.next t notes before between replays step) goes.here.is goes.resting
+    ends_late laws start moment k heard since place ts between after goes.next (replays_more laws.rounds.heard.resting.next t notes before between replays step) goes.here.is goes.resting
     one.peers one.later first.linked first.sends more next
 
 pub record CalmOver (heard place : ℕ) (before after : Parts) (r : Member) : Type 0 where
@@ -185,7 +186,7 @@ turns_over laws [] heard place before after r replays at calm is = subst (λ (w 
   calm = calm;
 })
 turns_over laws (turn ∷ turns) heard place before after r replays at calm (between, goes, ticked, none, past, more) =
-    let all = one_whole laws.rounds heard turn.0 place before between r replays at calm.runs calm.settled calm.quiet calm.current calm.later calm.peers calm.linked calm.sends goes in
+    let all = one_whole laws.rounds 0 heard turn.0 place before between r replays at calm.runs calm.settled calm.quiet calm.current calm.later calm.peers calm.linked calm.sends goes in
     let one = (all.heard_on).goes in
     let delivered : AreDelivered (turn.1 - 19999) between one.next = record {
       none_waits = λ k mail y there to reached waits. none one.next k mail y one.here.is there to reached waits;
@@ -194,13 +195,13 @@ turns_over laws (turn ∷ turns) heard place before after r replays at calm (bet
           let at_k : slice_get between.members k ≡ Some x = slice_get-get_or between.members k x within ∙ ap Some is in
           let (m, both) = one.was k x at_k in
           let was : IsReached before r m = (one.keeps k m x both).0.1 reached in
-          let end = ends_late laws turn.1 k heard (length before.copies) place turn.0 before between r replays at
+          let end = ends_late laws 0 turn.1 k heard (length before.copies) place turn.0 before between r replays at
           (rests_now before r calm.runs calm.settled calm.quiet calm.current) calm.peers calm.later calm.linked calm.sends goes (inr (ticked k r m at both.was was)) in
           let next_is : one.next ≡ end.next = same_Some one.next end.next (sym one.here.is ∙ end.here) in
           let less = end.late x p at_k (subst (λ (z : Member). IsReached between z x) next_is reached) p_in in
           omega (arith, less);
     } in
-    let since = heard_since between one.next all.linked all.sends (turn.1 - 19999) delivered in
+    let since = heard_since 0 between one.next all.linked all.sends (turn.1 - 19999) (omega arith) delivered in
     let rest = turns_over laws turns (turn.1 - 19999) place between after one.next (replays_all laws.rounds heard (length before.copies) place turn.0 before between replays goes) one.here.is
     (record {
       runs = one.resting.runs;

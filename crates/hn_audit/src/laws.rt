@@ -6,7 +6,7 @@ ghost use Rattle.hn_audit.specs.Laws.{AlwaysSettledAreSound, IsOfEachFront, Sett
 ghost use Rattle.hn_audit.specs.Laws.{RestHasARun, UnchangedIsAtRest, AnewHasARun, WitnessRefutesSettled, WitnessRefutesQuiet, WitnessNamesRestless, UnsettledIsOne, UnquietIsOne};
 ghost use Rattle.hn_audit.specs.Calm.{SettledHaveOneHash, QuietStaysOverDeliveries, RestGoesOn, RestLasts};
 ghost use Rattle.hn_audit.specs.Heard.{RestLastsWhileHeard, RoundRenews, RestGoesInRounds, RestGoesInTurns};
-ghost use Rattle.hn_audit.specs.Lasting.{LastingGoesInTurns};
+ghost use Rattle.hn_audit.specs.Lasting.{CalmComesAndLasts, CalmHomesAlwaysStay};
 ghost use Rattle.hn_audit.specs.Staying.{QuietHomesStay, QuietHomesAlwaysStay};
 
 use hn_assign::{
@@ -146,9 +146,9 @@ pub fn rest_is_the_fixed_point()
     wishes_exist();
 }
 
-/// A settled and quiet router stays so, with the same assignments, marks of application aside, when time passes, and when
+/// A settled and quiet router stays so, with the same assignments, marks of application aside, when time passes, when
 /// a router ticks: one that it does not reach, or one that keeps and holds nothing which has come to its moment, and that
-/// uses and wants the same delegated prefixes after the tick as before.
+/// uses and wants the same delegated prefixes after the tick as before; and over a calm delivery.
 pub fn quiet_homes_stay()
     ensures { QuietHomesStay }
 {
@@ -168,6 +168,7 @@ pub fn quiet_homes_stay()
     advertised_of_unchanged();
     rest_stays();
     rest_changes_no_assignment();
+    quiet_homes_stay_over_deliveries();
 }
 
 /// So it was over each event of a replayed world's trace.
@@ -372,9 +373,10 @@ pub fn rest_goes_in_turns()
     ticks_have_sent();
 }
 
-/// A calm router whose set are all running routers, and for which nothing ends until a moment, stays calm over turns until then.
-pub fn lasting_goes_in_turns()
-    ensures { LastingGoesInTurns }
+/// A settled and quiet router whose set are all running routers, and for which nothing ends until a moment, is calm after 20 s
+/// without loss, if its peers are linked and were heard lately; and a calm one stays calm over turns until then.
+pub fn calm_comes_and_lasts()
+    ensures { CalmComesAndLasts }
 {
     at_most_one_world();
     always_sound();
@@ -407,4 +409,13 @@ pub fn lasting_goes_in_turns()
     usable_of_later();
     ends_of_later();
     restful_tick_leaves_ages();
+}
+
+/// So it is from each moment of a replayed world's past on.
+pub fn calm_homes_always_stay()
+    ensures { CalmHomesAlwaysStay }
+{
+    at_most_one_world();
+    always_sound();
+    calm_comes_and_lasts();
 }

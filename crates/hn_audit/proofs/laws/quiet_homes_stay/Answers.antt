@@ -25,3 +25,4 @@ returns c =
       restful = c.restful_tick.ensures;
     } in
     quiet_stays (record { worlds = worlds; rests = rests; id = c.tick_keeps_the_identifier.ensures; moment = c.moment_is_now.ensures })
+    c.quiet_homes_stay_over_deliveries.ensures

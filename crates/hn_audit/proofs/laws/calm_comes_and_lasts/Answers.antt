@@ -3,9 +3,10 @@ use Rattle.hn_audit.proofs.CalmDeliveries.{CalmLaws}
 use Rattle.hn_audit.proofs.RestOfPassed.{PassLaws}
 use Rattle.hn_audit.proofs.RoundsRenewed.{RoundLaws}
 use Rattle.hn_audit.proofs.StayingRests.{RestLaws}
-use Rattle.hn_audit.proofs.laws.lasting_goes_in_turns.Goals as goal
+use Rattle.hn_audit.proofs.laws.calm_comes_and_lasts.Goals as goal
 use Rattle.hn_audit.proofs.LastingRouters.{UntilLaws}
-use Rattle.hn_audit.proofs.LastingTurns.{lasting_goes_in_turns}
+use Rattle.hn_audit.proofs.ComingCalm.{calm_comes}
+use Rattle.hn_audit.proofs.LastingTurns.{LastingLaws, lasting_goes_in_turns}
 use Rattle.hn_audit.proofs.RestsHeard.{HeardLaws}
 use Rattle.hn_audit.proofs.RestsOnwards.{RestingLaws}
 
@@ -61,4 +62,5 @@ returns c =
       leaves = c.restful_tick_leaves_ages.ensures;
       moment = c.moment_is_now.ensures;
     } in
-    lasting_goes_in_turns (record { turns = record { rounds = rounds; sent = c.ticks_have_sent.ensures }; until = until })
+    let all : LastingLaws = record { turns = record { rounds = rounds; sent = c.ticks_have_sent.ensures }; until = until } in
+    record { comes = calm_comes all; lasts = lasting_goes_in_turns all }

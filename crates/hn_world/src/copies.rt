@@ -27,10 +27,10 @@ pub struct MailCopy {
     pub from: Addr,
     /// Whether it was sent by multicast.
     pub multicast: bool,
-    /// Its bytes, which its copies share.
-    pub bytes: Shared<Bytes>,
     /// Whether it was neither delivered nor dropped yet.
     pub waiting: bool,
+    /// Its bytes, which its copies share.
+    pub bytes: Shared<Bytes>,
 }
 
 /// Where a copy goes, from where, and whether it waits.

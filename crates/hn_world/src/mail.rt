@@ -54,8 +54,8 @@ impl Target {
             to: *self,
             from: sender.address(),
             multicast: to.is_none(),
-            bytes: bytes.clone()?,
             waiting: true,
+            bytes: bytes.clone()?,
         })
     }
 }

@@ -82,8 +82,8 @@ fn watch<S: Source, K: Sink>(alloc: Global, src: &mut S, out: &mut K) -> u8
 ///
 /// The status says them, and there is none but 0 to 6. 1 comes if and only if the words ask for no form. 2 comes
 /// exactly if the input or a line of it is refused, and none of 3 to 5 comes; with `udp` over a wire that does not tell
-/// what waits, it comes only if a line is refused in some play over it. 3, 4 and 5 come if and only if the count of
-/// faults of the source, the sink or the wire rose in this call. 6 comes out of memory; no clause says when.
+/// what waits, a play comes to 2 only if a line is refused in some play over it. 3, 4 and 5 come if and only if the
+/// count of faults of the source, the sink or the wire rose in this call. 6 comes out of memory; no clause says when.
 pub fn run<S: Source, K: Sink, W: Wire, C: Clock>(
     alloc: Global,
     words: &[String],

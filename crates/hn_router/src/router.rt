@@ -253,12 +253,13 @@ impl Router {
         done
     }
 
-    /// A tick before something is due: the moment changes, and nothing else. Never allocates.
-    fn pass(&mut self, now: Moment)
+    /// A tick before `due_at`, as `act` has it happen: the moment changes, and nothing else. Never allocates.
+    pub fn pass(&mut self, now: Moment)
         requires not_before { self.old.moment ≤ now }
         requires in_range { now ≤ 2 ^ 48 }
         requires undue { now < self.old.due }
         ensures router { self.new ≡ at_moment now self.old }
+        ensures happened { Happened now Tick self.old self.new nothing }
         ensures idle { IsIdleTick now self.old }
         ensures next { IsNextDue (at_moment now self.old) self.old.due }
     {

@@ -1,6 +1,6 @@
 use Rattle.hn_base.proofs.Names.{◌≡◌, sym, subst, All, All-nil, Took}
-use Rattle.hn_router.proofs.Names.{Done, State, nothing, after_passing, IsNextDue, at_moment, plain_event, PlainEvent, Tick, Happened, IsShortSend}
-use Rattle.hn_router.proofs.Keeping.{passed, next_known}
+use Rattle.hn_router.proofs.Names.{Done, State, nothing, after_passing, IsNextDue, plain_event, PlainEvent, Tick, Happened, IsShortSend}
+use Rattle.hn_router.proofs.Keeping.{next_known}
 use Rattle.hn_router.proofs.router.Router.act.Goals as goal
 
 pub returns-then-now-due_at-clause-happened : goal.returns-then-now-due_at-clause-happened
@@ -8,9 +8,7 @@ returns-then-now-due_at-clause-happened g c =
     let now = c.args.now in
     let s = c.args.self.now in
     let tick : plain_event c.args.event.now ≡ Tick = c.is_tick.ensures.0 c.if-is_tick.true in
-    let idle : Happened now Tick s (at_moment now s) nothing = passed now s c.pass.ensures.idle c.pass.ensures.next in
-    let there : Happened now Tick s c.pass.new.self nothing = subst (λ (x : State). Happened now Tick s x nothing) (sym c.pass.ensures.router) idle in
-    let done : Happened now Tick s c.pass.new.self c.new.result = subst (λ (d : Done). Happened now Tick s c.pass.new.self d) (sym c.new.ensures) there in
+    let done : Happened now Tick s c.pass.new.self c.new.result = subst (λ (d : Done). Happened now Tick s c.pass.new.self d) (sym c.new.ensures) c.pass.ensures.happened in
     subst (λ (e : PlainEvent). Happened now e s c.pass.new.self c.new.result) (sym tick) done
 
 pub returns-clause-drew : goal.returns-clause-drew

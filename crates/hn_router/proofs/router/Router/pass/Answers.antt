@@ -1,6 +1,6 @@
 use Rattle.hn_base.proofs.Names.{◌≤◌, ◌<◌, ℕ, sym, subst}
-use Rattle.hn_router.proofs.Names.{State, at_moment, IsKeptRouter}
-use Rattle.hn_router.proofs.Keeping.{KeptLaws, kept_later, idle_later}
+use Rattle.hn_router.proofs.Names.{State, nothing, at_moment, Tick, Happened, IsKeptRouter}
+use Rattle.hn_router.proofs.Keeping.{KeptLaws, kept_later, idle_later, passed}
 use Rattle.hn_router.proofs.router.Router.pass.Goals as goal
 
 pub invariant_of-self : goal.invariant_of-self
@@ -16,3 +16,11 @@ returns-clause-idle c = (idle_later c.idle_until_due.ensures c.args.now c.args.s
 
 pub returns-clause-next : goal.returns-clause-next
 returns-clause-next c = (idle_later c.idle_until_due.ensures c.args.now c.args.self.now (subst IsKeptRouter c.self.view_is c.self.invariant) c.requires.not_before c.requires.undue).1
+
+pub returns-clause-happened : goal.returns-clause-happened
+returns-clause-happened c =
+    let now = c.args.now in
+    let s = c.args.self.now in
+    let next = idle_later c.idle_until_due.ensures now s (subst IsKeptRouter c.self.view_is c.self.invariant) c.requires.not_before c.requires.undue in
+    subst (λ (x : State). Happened now Tick s (at_moment c.new-self-inside.result x) nothing) (sym c.self.view_is)
+    (subst (λ (m : ℕ). Happened now Tick s (at_moment m s) nothing) (sym c.new-self-inside.ensures) (passed now s next.0 next.1))

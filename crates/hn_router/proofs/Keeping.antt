@@ -90,7 +90,7 @@ idle_there laws now due s router rises idle =
     let there : IsRouter (record s { moment = now; due = due }) = router_due due (at_moment now s) (laws.later now s router rises) in
     laws.still_is_idle (record s { moment = now; due = due }) now there (omega arith) still
 
-pub kept_after : KeptLaws → (now : ℕ) (event : PlainEvent) (s : State) (after : Running) (due : ℕ) → IsRouter s → s.moment ≤ now → IsEvent event (begun_at now s) after
+kept_after : KeptLaws → (now : ℕ) (event : PlainEvent) (s : State) (after : Running) (due : ℕ) → IsRouter s → s.moment ≤ now → IsEvent event (begun_at now s) after
     → IsDueAfter event (begun_at now s) after due → IsRouter (record after.state { due = due }) → IsKeptRouter (record after.state { due = due })
 kept_after laws now event s after due router rises ran (inl ((is_tick, same, none), next)) stays = record {
   router = stays;
@@ -100,6 +100,13 @@ kept_after laws now event s after due router rises ran (inl ((is_tick, same, non
       (subst (λ (x : State). IsIdleTick x.moment (record x { due = due })) (sym same) (idle_there laws now due s router rises idle), next);
 }
 kept_after laws now event s after due router rises ran (inr (busy, is_none)) stays = record { router = stays; due = λ later. absurd (omega arith) }
+
+-- so it is of what an event comes to
+pub kept_happened : KeptLaws → (now : ℕ) (event : PlainEvent) (s next : State) (done : Done) → IsRouter s → s.moment ≤ now → Happened now event s next done
+    → IsRouter next → IsKeptRouter next
+unfolding Happened
+kept_happened laws now event s next done router rises (after, ran, (due, is_due, is_next), is_done) stays =
+    subst IsKeptRouter (sym is_next) (kept_after laws now event s after due router rises ran is_due (subst IsRouter is_next stays))
 
 -- ---- a tick before something is due
 

@@ -146,6 +146,33 @@ fn new_state(
     })
 }
 
+// The state of a router after an event at a moment, and what came of it.
+fn run_to<D: Draw>(
+    alloc: Global,
+    state: &State,
+    event: &Event<'_>,
+    now: Moment,
+    draw: &mut D,
+) -> Result<(State, Done), NoMemory>
+    requires router { IsRouter state.now }
+    requires not_before { state.now.moment ≤ now }
+    requires in_range { now ≤ 2 ^ 48 }
+    ensures happened { IfOk result (λ r. Happened now (plain_event event.now) state.now r.0 r.1) }
+    ensures drew { IfOk result (λ r. Took (D.words draw.old) r.1.words (D.words draw.new)) }
+{
+    router_stays_later();
+    let mut next = Running::begin(alloc, state, now)?;
+    run(alloc, &mut next, event, draw)?;
+    let due = due_after(alloc, event, now, state, &next)?;
+    let Running {
+        mut state,
+        done,
+        ..
+    } = next;
+    state.due = due;
+    Ok((state, done))
+}
+
 impl Router {
     /// A router that begins at a moment, without capabilities, endpoints, delegated and assigned prefixes, a private link
     /// and addresses, and with sequence number 1. It may hold 256 other nodes.
@@ -230,15 +257,7 @@ impl Router {
         idle_is_still();
         still_is_idle();
         event_in_range(event);
-        let mut next = Running::begin(alloc, &self.state, now)?;
-        run(alloc, &mut next, event, draw)?;
-        let due = due_after(alloc, event, now, &self.state, &next)?;
-        let Running {
-            mut state,
-            done,
-            ..
-        } = next;
-        state.due = due;
+        let (state, done) = run_to(alloc, &self.state, event, now, draw)?;
         Ok(Plan { state, done })
     }
 

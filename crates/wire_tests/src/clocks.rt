@@ -1,7 +1,7 @@
 use hn_wire::{Clock, MachineClock, MemClock};
 use std::test::Fail;
-use std::thread;
 use std::time::{Duration, Instant};
+use std::{io, thread, time};
 
 #[test]
 fn the_last_reading_is_repeated(rt: HostRuntime) -> Result<(), Fail> {
@@ -12,27 +12,37 @@ fn the_last_reading_is_repeated(rt: HostRuntime) -> Result<(), Fail> {
     Ok(())
 }
 
-#[test]
-fn the_clock_of_the_machine_goes_on(rt: HostRuntime) {
-    let mut clock = MachineClock::new(&rt);
-    assert!(rt; clock.now() == 0);
-    let went_on = (0..1_000_000).any(|_| clock.now() > 0);
-    assert!(rt; went_on);
+/// A clock of the system that goes 100,000 times as fast as another.
+#[derive(Drop)]
+struct Hurried<R> {
+    rt: R,
 }
 
-/// The clock begins between two moments of the system and is read between two later ones. Its reading is the time between,
-/// however long each call takes.
+impl<R: time::Clock> time::Clock for Hurried<R> {
+    fn monotonic(&self) -> io::Result<Duration> {
+        let time = self.rt.monotonic()?;
+        Ok(time.saturating_mul(100_000))
+    }
+
+    fn since_1970(&self) -> io::Result<Duration> {
+        self.rt.since_1970()
+    }
+}
+
+/// The clock begins between two moments of the system and is read between two later ones, from forty minutes to almost
+/// three hours after. Its reading is the time between, however long each call takes.
 #[test]
 fn the_clock_of_the_machine_is_that_of_the_system(rt: HostRuntime) -> Result<(), Fail> {
-    let mut clock = MachineClock::new(&rt);
-    let before = Instant::now(&rt)?;
+    let system = Hurried { rt: &rt };
+    let mut clock = MachineClock::new(&system);
+    let before = Instant::now(&system)?;
     assert!(rt; clock.now() == 0);
-    let begun = Instant::now(&rt)?;
+    let begun = Instant::now(&system)?;
     for round in 0..4 {
         thread::sleep(&rt, Duration::from_millis(25));
-        let least = begun.elapsed(&rt)?.as_millis();
+        let least = begun.elapsed(&system)?.as_millis();
         let reading = u128::from(clock.now());
-        let most = before.elapsed(&rt)?.as_millis();
+        let most = before.elapsed(&system)?.as_millis();
         assert!(rt;
             least <= reading && reading <= most,
             "{round}: {reading} is not from {least} to {most}"

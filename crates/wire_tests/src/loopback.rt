@@ -5,9 +5,10 @@ use hn_wire::{MOST_WIRE_BYTES, Wire};
 use std::net::{Ipv4Addr, SocketAddrV4, UdpSocket};
 use std::test::Fail;
 
-/// A wire that sent a datagram from the first port from 20000 on that is free with the next one, and these two ports.
+/// A wire that sent a datagram from the first port from 61000 on that is free with the next one, and these two ports.
+/// They have 16 bits, and are above those that the system gives by itself.
 fn first_send(rt: &HostRuntime) -> Option<(UdpWire<&HostRuntime>, u16, u16)> {
-    for port in 20_000..60_000 {
+    for port in 61_000..65_000 {
         let mut wire = UdpWire::new(rt.alloc(), rt);
         if sent_two(&mut wire, port, port + 1, 5).is_ok() {
             return Some((wire, port, port + 1));
@@ -60,13 +61,16 @@ fn a_send_that_the_system_refuses_is_a_fault(rt: HostRuntime) -> Result<(), Fail
 }
 
 #[test]
-fn the_longest_datagram_goes_whole(rt: HostRuntime) -> Result<(), Fail> {
+fn the_longest_and_the_empty_datagram_go_whole(rt: HostRuntime) -> Result<(), Fail> {
     let (mut wire, port, next) = first_send(&rt).ok_or("no two ports are free")?;
     assert!(rt; wire.send(port, next, &[7; MOST_WIRE_BYTES]) == Ok(()));
+    assert!(rt; wire.send(port, next, &[]) == Ok(()));
     assert!(rt; taken(&mut wire, next).0 == Ok(Some((2, port))));
     let mut buf = [9; 65_536];
     assert!(rt; wire.take(next, &mut buf) == Ok(Some((MOST_WIRE_BYTES, port))));
     assert!(rt; buf.iter().take(MOST_WIRE_BYTES).all(|byte| *byte == 7));
+    assert!(rt; wire.take(next, &mut buf) == Ok(Some((0, port))));
+    assert!(rt; wire.take(next, &mut buf) == Ok(None));
     Ok(())
 }
 

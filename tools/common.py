@@ -164,14 +164,18 @@ def in_order(function, values):
         pool.shutdown()
 
 
-def part_of(values, part, given):
-    """Those of the values that part K of N has, where the part is a word `K/N`. A word that is none is told by the parser. The
-    Python package parts seeds, which lies beside the tools in a clone and in an archive."""
+def use_package():
+    """Lets the Python package be imported, which lies beside the tools in a clone and in an archive. It takes these programs."""
     folder = os.path.join(os.path.dirname(HERE), 'python')
     if not os.path.isdir(os.path.join(folder, 'rulercress')):
-        raise Problem(f'there is no {folder}/rulercress: parts need the Python package of the repository')
+        raise Problem(f'there is no {folder}/rulercress: this needs the Python package of the repository')
     if folder not in sys.path:
         sys.path.insert(0, folder)
+
+
+def part_of(values, part, given):
+    """Those of the values that part K of N has, where the part is a word `K/N`. A word that is none is told by the parser."""
+    use_package()
     from rulercress.campaigns import shard
     try:
         return shard(values, part)

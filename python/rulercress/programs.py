@@ -47,7 +47,7 @@ def run(name: str, words: Sequence[str], data: bytes) -> Tuple[str, int]:
         raise MemoryError(f'{name} {words[0]} ran out of memory')
     if done.returncode not in (DONE, REFUSED):
         said = done.stderr.decode(TEXT, 'replace').strip()
-        raise Problem(f'{name} {words[0]} ended with status {done.returncode}: {said}')
+        raise Problem(f'{name} {words[0]} ended with status {done.returncode}' + (f': {said}' if said else ''))
     return done.stdout.decode(TEXT, 'replace'), done.returncode
 
 

@@ -49,7 +49,7 @@ impl Parts {
         ensures err { OnErr result (self.new ≡ self.old) }
     {
         enter(&mut self.trace, without_words(alloc, WEvent::Tick { name }))?;
-        self.members.pass(alloc, place, self.moment.get(), draw);
+        self.members.pass(place, self.moment.get());
         Ok(Sequence::new(alloc))
     }
 

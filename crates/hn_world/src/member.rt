@@ -14,8 +14,7 @@ ghost use Rattle.hn_world.specs.Step.{attached_to, detached_from, stopped};
 
 use crate::routed::Beside;
 use hn_base::{EpId, Moment, Name, NoMemory, Sequence};
-use hn_io::Draw;
-use hn_router::{Event, Plan, Router};
+use hn_router::{Plan, Router};
 use hn_rules::{Done, Passing};
 use std::alloc::Global;
 use std::marker::Model;
@@ -137,18 +136,6 @@ impl Member {
     }
 }
 
-/// A router looks at its clock before something is due for it. Never allocates.
-fn pass<D: Draw>(router: &mut Router, alloc: Global, now: Moment, draw: &mut D)
-    requires past { router.old.moment ≤ now }
-    requires in_range { now ≤ 2 ^ 48 }
-    requires undue { now < router.old.due }
-    ensures router { router.new ≡ at_moment now router.old }
-    ensures happened { Happened now Tick router.old (at_moment now router.old) nothing }
-    ensures undrawn { D.words draw.new ≡ D.words draw.old }
-{
-    router.act(alloc, &Event::Tick, now, draw).unwrap();
-}
-
 impl Members {
     /// No routers. Never allocates.
     pub(crate) fn new(alloc: Global) -> Members
@@ -222,16 +209,15 @@ impl Members {
     }
 
     /// The router at a place looks at its clock before something is due for it. Never allocates.
-    pub(crate) fn pass<D: Draw>(&mut self, alloc: Global, place: usize, now: Moment, draw: &mut D)
+    pub(crate) fn pass(&mut self, place: usize, now: Moment)
         requires there { place < length self.old }
         requires past { (m : Member) → slice_get self.old place ≡ Some m → m.router.moment ≤ now }
         requires in_range { now ≤ 2 ^ 48 }
         requires undue { (m : Member) → slice_get self.old place ≡ Some m → now < m.router.due }
         ensures members { (m : Member) → slice_get self.old place ≡ Some m → self.new ≡ slice_set self.old place (record m { router = at_moment now m.router }) }
         ensures happened { (m : Member) → slice_get self.old place ≡ Some m → Happened now Tick m.router (at_moment now m.router) nothing }
-        ensures undrawn { D.words draw.new ≡ D.words draw.old }
     {
-        pass(&mut self.items[place].router, alloc, now, draw);
+        self.items[place].router.pass(now);
     }
 
     /// The router at a place lets an arrival pass.

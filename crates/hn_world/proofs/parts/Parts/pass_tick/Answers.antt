@@ -1,6 +1,5 @@
-use Rattle.hn_base.proofs.Names.{◌≡◌, ◌≤◌, ℕ, Option, Some, slice_get, slice_set, sym, subst, name_text}
-use Rattle.hn_world.proofs.Names.{nothing, at_moment, Tick, Happened, Member, Parts, IsStep}
-use Rattle.hn_world.specs.declared.event.WEvent.TheVariants as event
+use Rattle.hn_base.proofs.Names.{◌≡◌, ◌≤◌, ℕ, Some, slice_get, slice_set, sym, subst, name_text}
+use Rattle.hn_world.proofs.Names.{nothing, at_moment, Tick, Happened, Member}
 use Rattle.hn_world.proofs.DoneAsPlanned.{there, router_within, router_past, passed_step}
 use Rattle.hn_world.proofs.parts.Parts.pass_tick.Goals as goal
 
@@ -18,11 +17,9 @@ returns-clause-ok g c =
     let place = c.args.place in
     let here = there w.members place (router_within (name_text c.args.name) w place c.requires.placed) in
     let m : Member = here.0 in
-    let after : Parts = record w { members = c.pass.new.self; trace = c.enter.new.trace } in
     let moved : c.pass.new.self ≡ slice_set w.members place (record m { router = at_moment w.moment m.router }) =
     subst (λ (now : ℕ). c.pass.new.self ≡ slice_set w.members place (record m { router = at_moment now m.router })) c.get.ensures.moment (c.pass.ensures.members m here.1) in
     let happened : Happened w.moment Tick m.router (at_moment w.moment m.router) nothing =
     subst (λ (now : ℕ). Happened now Tick m.router (at_moment now m.router) nothing) c.get.ensures.moment (c.pass.ensures.happened m here.1) in
-    subst (λ (told : Option (ℕ → ℕ)). IsStep (event.Tick c.args.name) c.new.result (g.D.Draw.words c.args.draw.now) told w after) (sym c.pass.ensures.undrawn)
-    (passed_step c.args.name place w m c.pass.new.self c.enter.new.trace c.without_words.result c.new.result
-    (g.D.Draw.words c.args.draw.now) c.requires.accepted c.requires.placed here.1 happened moved c.without_words.ensures c.in_ok-enter.ensures.trace c.new.ensures)
+    passed_step c.args.name place w m c.pass.new.self c.enter.new.trace c.without_words.result c.new.result
+    (g.D.Draw.words c.args.draw.now) c.requires.accepted c.requires.placed here.1 happened moved c.without_words.ensures c.in_ok-enter.ensures.trace c.new.ensures

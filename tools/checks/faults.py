@@ -139,12 +139,21 @@ def network_hashes(before, after, more={}):
 
 
 def with_more(more):
-    return lambda data: data + more
+    """One more TLV, at its place."""
+    return lambda data: b''.join(sorted([*(tlv(*each) for each in tlvs(data)), more]))
 
 
 def on_kind(kind, edit):
     """An edit of the values of a type."""
     return lambda data: spelled([(each, edit(value) if each == kind else value) for each, value in tlvs(data)])
+
+
+def backward(data):
+    return spelled(tlvs(data)[::-1])
+
+
+def first_twice(data):
+    return spelled([*tlvs(data)[:1], *tlvs(data)])
 
 
 def without(kind):
@@ -212,6 +221,27 @@ def doubled(after, gap):
         first = sound.multicast(after)
         return sound.add(first.moment + gap, first.source, first.destination, first.payload)
     return plant
+
+
+def astray(sound):
+    """A monitor asks from a port of its own, and is answered at another one."""
+    answer = next(each for each in sound.datagrams if each.source == THERE and NETWORK_STATE in [kind for kind, _ in tlvs(each.payload)])
+    sound.add(40.0, MONITOR, THERE, REQUEST).source_port = 40000
+    return sound.add(40.01, THERE, MONITOR, endpoint(B, 1) + tlv(NETWORK_STATE, dict(tlvs(answer.payload))[NETWORK_STATE]))
+
+
+def storm(sound):
+    """A multicast comes each 100 ms, for some seconds."""
+    first = sound.multicast(45.0)
+    for place in range(1, 30):
+        sound.add(first.moment + 0.1 * place, first.source, first.destination, first.payload)
+    return next(each for each in sound.datagrams if each.source == first.source and each.moment > first.moment)
+
+
+def begun_anew(sound):
+    """A router shows an earlier number of its own."""
+    number, age, digest = sound.state(A, 40.0, 1)
+    return sound.add(40.0, HERE, THERE, endpoint(A, 1) + node_state(A, number, age, digest))
 
 
 def silent(sound):
@@ -294,11 +324,17 @@ def preferred_above_valid(value):
     return spelled([(34, at(0, struct.pack('>II', 7200, 7201))(sub)) for _, sub in tlvs(value)])
 
 
+def with_inner(value):
+    """One more Delegated-Prefix, inside of the first one."""
+    _, sub = tlvs(value)[0]
+    return value + tlv(34, sub[:8] + bytes([sub[8] + 4]) + sub[9:17].ljust((sub[8] + 11) // 8, b'\0'))
+
+
 def assigned(number, prefix, endpoint_priority=2):
     return tlv(35, struct.pack('>IB', number, endpoint_priority) + b'\x40' + prefix)
 
 
-HERE, THERE = homes.address(A, 1), homes.address(B, 1)
+HERE, THERE, MONITOR = homes.address(A, 1), homes.address(B, 1), 'fe80::99'
 FAULTS = [
     ('a datagram ends with two bytes', 'malformed', malformed(lambda octets: octets + bytes(2))),
     ('a length passes the end', 'malformed', malformed(lambda octets: octets[:-4])),
@@ -308,14 +344,18 @@ FAULTS = [
     ('a pad byte before sub-TLVs is not zero', 'bad', published(C, with_more(tlv(35, struct.pack('>IB', 9, 2) + b'\x08\x20\1' + REQUEST)))),
     ('a bit past the prefix length', 'bad', published(C, with_more(tlv(35, struct.pack('>IB', 9, 2) + b'\x3f' + DEN[:7] + b'\1')))),
     ('a user agent that is not in UTF-8', 'bad no-version', published(C, on_kind(32, lambda value: value[:4] + b'\xff'))),
+    ('a prefix length above 128', 'bad', published(C, with_more(tlv(35, struct.pack('>IB', 9, 2) + b'\x81' + bytes(17))))),
+    ('a Node State without all of its fields', 'bad', more_in_datagram(tlv(5, bytes(12)))),
     ('a sub-TLV without padding inside the enclosing TLV', 'no-padding', published(A, unpadded)),
-    ('node data that are no list of TLVs', 'body', published(C, with_more(bytes(2)))),
+    ('node data that are no list of TLVs', 'body', published(C, lambda data: data + bytes(2))),
     ('a source that is not link-local', 'far-source', added(40.0, '2001:db8::9', HERE, endpoint(9, 1) + REQUEST)),
     ('HNCP over IPv4', 'far-source far-destination', added(40.0, '10.0.0.9', '10.0.0.1', endpoint(9, 1) + REQUEST)),
+    ('HNCP over IPv4 of link-local addresses', 'far-source far-destination', added(40.0, '169.254.0.9', '169.254.0.1', endpoint(9, 1) + REQUEST)),
     ('a destination that is not link-local', 'far-destination', added(40.0, THERE, '2001:db8::9', endpoint(B, 1) + REQUEST)),
     ('a multicast to another group', 'far-destination', other_way(destination='ff02::1')),
     ('a multicast to another port', 'port', other_way(port=8232)),
     ('an answer to a port that asked nothing', 'port', added(40.0, THERE, HERE, endpoint(B, 1) + REQUEST, 50000)),
+    ('an answer to port 8231 of a host that asked from another', 'port listener', astray),
     ('more than 4000 bytes', 'long', more_in_datagram(tlv(600, bytes(4000)))),
     ('a Network State without a Node Endpoint', 'no-endpoint', headless),
     ('a Network State before the Node Endpoint', 'no-endpoint', turned),
@@ -327,9 +367,13 @@ FAULTS = [
     ('a Peer outside of node data', 'misplaced', more_in_datagram(tlv(8, struct.pack('>III', 9, 1, 1)))),
     ('a Node Endpoint within node data', 'misplaced', published(C, with_more(endpoint(9, 1)))),
     ('a Delegated-Prefix outside of an External-Connection', 'misplaced', published(C, with_more(tlv(34, bytes(8) + b'\x08\x20')))),
+    ('node data whose TLVs are not in order', 'order', published(C, backward)),
+    ('a TLV that stands twice in node data', 'order', published(C, first_twice)),
+    ('a multicast each 100 ms', 'too-soon', storm),
     ('a multicast again after 50 ms', 'too-soon', doubled(1.0, 0.05)),
     ('a multicast again after 3 s, in a home at rest', 'too-soon', doubled(45.0, 3.0)),
     ('no keep-alive for 25 s', 'too-late', silent),
+    ('keep-alives each 20 s, where the data promise 5 s', 'too-late', at_the_end(C, with_more(tlv(9, struct.pack('>II', 0, 5000))))),
     ('a router that sends nothing for the last 50 s', 'silent', dead),
     ('a router that says another network state hash for a minute', 'differ', of_two_minds),
     ('two requests within 50 ms', 'asks-often', asked_twice),
@@ -338,6 +382,8 @@ FAULTS = [
     ('data with the hash of others', 'data-hash', other_data),
     ('one number with two hashes', 'two-hashes', shown_at(40.0, lambda number, age, digest: (number, age, digest[::-1]))),
     ('a number that falls', 'number-falls', shown_at(40.0, lambda *state: state, back=1)),
+    ('a router that begins anew', 'number-falls', begun_anew),
+    ('data that become older at once', 'age', shown_at(40.0, lambda number, age, digest: (number, age + 60000, digest))),
     ('data that become younger', 'age', shown_at(40.0, lambda number, age, digest: (number, 0, digest))),
     ('data that are too old', 'too-old', shown_at(40.0, lambda number, age, digest: (number, 2 ** 32 - 1, digest))),
     ('no HNCP-Version', 'no-version', published(C, without(32))),
@@ -350,10 +396,16 @@ FAULTS = [
     ('an assigned prefix of multicast addresses', 'scope', published(C, with_more(assigned(9, packed('ff02::')[:8])))),
     ('an assigned prefix of link-local addresses', 'scope', published(C, with_more(assigned(9, packed('fe80::')[:8])))),
     ('a delegated prefix of link-local addresses', 'scope', published(C, with_more(tlv(33, tlv(34, struct.pack('>IIB', 7200, 3600, 64) + packed('fe80::')[:8]))))),
+    ('an assigned prefix of link-local addresses of IPv4', 'scope',
+     published(C, with_more(tlv(35, struct.pack('>IB', 9, 2) + b'\x70' + packed('::ffff:169.254.0.0')[:14])))),
+    ('a delegated prefix inside another one of its uplink', 'delegated-overlap', published(A, on_kind(33, with_inner))),
     ('a preferred lifetime above the valid one', 'preferred', published(A, on_kind(33, preferred_above_valid))),
     ('no delegated prefix', 'inside-nothing', at_the_end(A, without(33))),
     ('two links with one prefix', 'overlap', at_the_end(C, swapped(DEN, LAN))),
+    ('a link whose prefix has that of another link in it', 'overlap address-outside',
+     at_the_end(C, on_kind(35, at(5, b'\x3c' + packed('2001:db8:0:10::')[:8])))),
     ('one link with two prefixes', 'two-prefixes', at_the_end(A, with_more(assigned(1, packed('2001:db8:0:99::')[:8])))),
     ('an address inside no assigned prefix', 'address-outside', at_the_end(C, on_kind(36, at(4, packed('2001:db8:1::1'))))),
+    ('a node address that is link-local', 'address-outside', at_the_end(C, on_kind(36, at(4, packed('fe80::1'))))),
     ('an address of two nodes', 'address-twice', at_the_end(C, on_kind(36, at(4, packed('2001:db8:0:18::604b'))))),
 ]

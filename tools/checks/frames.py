@@ -14,6 +14,7 @@ LINKS = {(1, 1): 10, (2, 1): 10, (2, 2): 20, (3, 1): 20}    # the VLAN of each e
 TAG, OUTER = 0x8100, 0x88a8
 LATER = 0.0003          # seconds after which a mirroring port shows a frame again
 SMALL, GROWTH = 300, 2.6
+AT_REST = 20000         # milliseconds
 VERSION, REQUEST = faults.tlv(32, bytes(4)), faults.tlv(1, b'')
 
 
@@ -119,8 +120,10 @@ def assigned(place, number=1):
 
 
 def stating(data):
-    """A datagram of node 9 with these node data."""
-    return faults.endpoint(9, 1) + faults.node_state(9, 1, 0, items.hash_of(VERSION + data), VERSION + data)
+    """A datagram of node 9 with these node data, which are at rest, and with their network state hash. So a home is judged by them."""
+    digest = items.hash_of(VERSION + data)
+    network = items.hash_of(items.network_state([(struct.pack('>I', 9), struct.pack('>I', 1), digest)]))
+    return faults.endpoint(9, 1) + faults.tlv(faults.NETWORK_STATE, network) + faults.node_state(9, 1, AT_REST, digest, VERSION + data)
 
 
 def many_prefixes(count):

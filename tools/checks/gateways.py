@@ -173,11 +173,11 @@ def check_simulated(folder):
 
 def check_judge(folder):
     """Held to: a capture of three routers as the program sent it, its fronts and rests, with numbers that wrap, and
-    captures of `tools/capture`: nothing is found. In it 56 faults, one at a time: each is found in its frame, and
+    captures of `tools/capture`: nothing is found. In it some 70 faults, one at a time: each is found in its frame, and
     nothing that does not follow from it. Random mutants of it give no traceback.
 
     Who talks: homes with a gateway that is deaf or dies: the rule is found, in the rest of the capture too. Homes where
-    one leaves a link, comes late or moves, their fronts and rests, and with lost frames: nothing.
+    one leaves a link, comes late or moves, or that fall in two parts and meet, their fronts and rests, and with lost frames: nothing.
 
     Frames: one address on two links by VLANs, by `-i any` and merged; frames that stand twice, out of order, without a
     fragment. Datagrams with twice as many prefixes, peers or nodes take about twice as many calls."""

@@ -4,6 +4,9 @@
 second one. In `one_is_deaf_beside_a_third` none from the second one comes to the first one. In `one_dies` and `one_of_two_dies` a
 router stops after 40 s. In `one_leaves_a_link` a router goes on to speak on another link, in `one_comes_late` one is attached
 after 50 s, and in `one_moves` one is on another link from 41 s on, by the same address.
+
+In `two_homes_that_meet` three routers and two are kept apart on one link for 120 s. In `two_that_part_and_meet` two routers do not
+hear each other from 40 s to 160 s. In `a_line_in_two_parts` that happens to the two in the middle of four from 60 s on, for good.
 """
 import copy
 
@@ -20,10 +23,14 @@ FOUND = {
     'one_leaves_a_link': '',
     'one_comes_late': '',
     'one_moves': '',
+    'two_homes_that_meet': '',
+    'two_that_part_and_meet': '',
+    'a_line_in_two_parts': '',
 }
 # Of some what is found in the rest from so many seconds on. There the home is at rest, and no node data are shown.
 LATE = {('one_is_deaf', 30.0): 'apart unanswered', ('one_dies', 15.0): 'silent', ('one_of_two_dies', 30.0): 'silent'}
 FEW = 40       # parts of each capture that are judged
+APART_UNTIL = 120.0    # seconds
 
 
 def found(datagrams):
@@ -88,10 +95,11 @@ def check_strangers():
     for each in other:
         each.source = 'fe80::77'
         each.payload = faults.endpoint(0x77, 1) + each.payload[12:]
-    made = judge(homes.talk('one_comes_late') + other)
-    must(not made.findings, f'two homes: {made.findings and made.findings[0]}')
-    must([each.rule for each in made.told] == ['strangers'], f'two homes: told {[str(each) for each in made.told]}')
-    return 1
+    apart = [each for each in homes.talk('two_homes_that_meet') if each.moment < APART_UNTIL]
+    for made in (judge(homes.talk('one_comes_late') + other), judge(apart)):
+        must(not made.findings, f'two homes: {made.findings and made.findings[0]}')
+        must([each.rule for each in made.told] == ['strangers'], f'two homes: told {[str(each) for each in made.told]}')
+    return 2
 
 
 def check_ends():

@@ -8,6 +8,7 @@ APART = 42.0     # seconds after which peers that do not hear each other are non
 DIFFER = 60.0    # seconds that network state hashes may differ
 STEP = 20.0      # seconds between the moments at which hashes are compared
 SPOKE = 26.0     # seconds within which a source is heard that is there
+NEVER = float('inf')
 
 
 class Minds:
@@ -59,6 +60,8 @@ class Minds:
         since, until = max(one.first.moment, other.first.moment), min(one.last.moment, other.last.moment)
         for this, that in ((one, other), (other, one)):
             parted = self.parted(this.post, that.post)
+            if parted is not None and moments is None:
+                parted = max(parted, self.joined(this.post, that.post))
             if parted is not None and is_spread(moments, max(since, parted), until, APART):
                 frame = self.home.data[this.post[0]].state.frame
                 self.find_apart(one, other, until - max(since, parted), f'the data of node {this.post[0]} have no such Peer (frame {frame})')
@@ -75,13 +78,27 @@ class Minds:
 
     def parted(self, post, other):
         """Since when the data of a node do not have an endpoint as its peer. None where they have it, or may not be the last ones."""
-        node, own = post
-        if node not in self.home.confirmed or (*other, own) in self.home.peers[node]:
+        if post[0] not in self.home.confirmed:
             return None
+        return self.since(post, other, False)
+
+    def joined(self, one, other):
+        """Since when two endpoints are mutual peers of one and the same third one, and so on one link: never, if there is none."""
+        found = [NEVER]
+        for node, endpoint, own in self.home.peers.get(one[0], ()):
+            if own == one[1]:
+                third = node, endpoint
+                moments = [self.since(*both, True) for post in (one, other) for both in ((post, third), (third, post))]
+                found += [max(moments)] if None not in moments else []
+        return min(found)
+
+    def since(self, post, other, has):
+        """Since when the data of a node have an endpoint as its peer, or have it not. None where the last ones do otherwise."""
+        node, own = post
         since = None
-        for state in sorted(self.states.versions[node], key=lambda state: state.moment - state.age, reverse=True):
+        for state in sorted(self.states.versions.get(node, ()), key=lambda state: state.moment - state.age, reverse=True):
             data = self.states.data.get(state.key)
-            if data is None or (*other, own) in data.peers():
+            if data is None or ((*other, own) in data.peers()) != has:
                 break
             since = state.moment - state.age
         return since

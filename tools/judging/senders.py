@@ -35,6 +35,10 @@ def is_multicast(text):
     return address is not None and address.is_multicast
 
 
+# A request: its moment, the one at which it may have been decided on, its destination, and whether it is the first to that one.
+Request = collections.namedtuple('Request', 'moment decided destination is_first')
+
+
 class Sender:
     """What is remembered of an endpoint that speaks from a source, or of a source that names none."""
 
@@ -47,7 +51,7 @@ class Sender:
         self.multicast = None      # the last one by multicast with a Network State
         self.trickle = None        # the Trickle of its last hash
         self.said = []             # (moment, hash) of its Network States
-        self.asked = collections.deque(maxlen=FEW)    # (moment, destination, whether it is the first to that destination)
+        self.asked = collections.deque(maxlen=FEW)    # its last requests
         self.knows = set()         # whom it asked
 
 
@@ -249,23 +253,29 @@ class Senders:
 
     def take_request(self, sender, datagram):
         """At most one request for each hash within Imin on a link. The first one to a destination counts for that destination
-        alone, since a node may ask each one that it does not know (RFC 7787, section 4.5)."""
+        alone, since a node may ask each one that it does not know (RFC 7787, section 4.5). What replies to a multicast may come late,
+        so that it was decided on before."""
         is_first = datagram.destination not in sender.knows
         sender.knows.add(datagram.destination)
-        while sender.asked and sender.asked[0][0] <= datagram.moment - IMIN + self.slack:
-            sender.asked.popleft()
-        sender.asked.append((datagram.moment, datagram.destination, is_first))
+        sender.asked.append(Request(datagram.moment, self.decided(datagram), datagram.destination, is_first))
+        asked = [each for each in sender.asked if each.decided > datagram.moment - IMIN + self.slack]
         since = datagram.moment - IMIN - DELAY - self.slack
-        same = [each for each in sender.asked if each[1] == datagram.destination]
-        again = [each for each in sender.asked if not each[2]]
-        for asked, where in [(same, f' to {datagram.destination}'), (again, ' to nodes that it asked before')]:
-            if len(asked) < 2:
+        same = [each for each in asked if each.destination == datagram.destination]
+        again = [each for each in asked if not each.is_first]
+        for found, where in [(same, f' to {datagram.destination}'), (again, ' to nodes that it asked before')]:
+            if len(found) < 2:
                 continue
-            hashes = set().union(*(self.of(datagram.link, address).hashes(since) for address in {address for _, address, _ in asked}))
-            if len(asked) > max(1, len(hashes)):
-                text = f'{len(asked)} requests within {datagram.moment - asked[0][0]:.3f} s{where}, for {max(1, len(hashes))} hash(es)'
+            hashes = set().union(*(self.of(datagram.link, address).hashes(since) for address in {each.destination for each in found}))
+            if len(found) > max(1, len(hashes)):
+                text = f'{len(found)} requests within {datagram.moment - found[0].moment:.3f} s{where}, for {max(1, len(hashes))} hash(es)'
                 self.find('asks-often', datagram, text)
                 return
+
+    def decided(self, datagram):
+        """When a request may have been decided on: with the multicast that it replies to, or else as it is sent."""
+        since = datagram.moment - DELAY - self.slack
+        found = [each.multicast.moment for each in self.of(datagram.link, datagram.destination).senders.values() if each.multicast]
+        return min((moment for moment in found if moment >= since), default=datagram.moment)
 
     def heard_last(self):
         """Of each endpoint that was heard its last datagram: (node, endpoint) -> datagram."""

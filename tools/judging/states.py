@@ -200,6 +200,7 @@ class States:
     def take_items(self, datagram, state):
         """What the items within the data say, each found once."""
         below = state.item.below
+        self.take_order(datagram, state)
         counted = [item.kind for item in below if item.kind > LAST_OF_ALL and item.kind in DATA_KINDS]
         if not any(item.name == 'version' for item in below):
             ignored = f'; others ignore its TLVs of the types {", ".join(map(str, sorted(set(counted))))}' if counted else ''
@@ -219,6 +220,15 @@ class States:
                 self.once('reserved', state, f'reserved bits of the Assigned-Prefix {item.words["prefix"]} are set', item.words['prefix'])
             self.take_words(state, item)
 
+    def take_order(self, datagram, state):
+        """The data are a set, whose TLVs ascend by all of their bytes, so that nodes with the same ones have the same hash."""
+        octets = [datagram.payload[item.place:item.place + HEAD + item.length] for item in state.item.below]
+        for item, before, after in zip(state.item.below[1:], octets, octets[1:]):
+            if after <= before:
+                how = 'is there twice' if after == before else 'stands behind a greater one'
+                self.once('order', state, f'the TLV of type {item.kind} at place {item.place} of the datagram {how}', '')
+                return
+
     def take_words(self, state, item):
         """What the fields of an item say that cannot be."""
         words = item.words
@@ -229,9 +239,20 @@ class States:
             kind = {'assigned': 'Assigned-Prefix', 'delegated': 'Delegated-Prefix'}[item.name]
             text = f'the {kind} {shown(words["prefix"])} is of link-local or multicast addresses'
             self.once('scope', state, text, (item.name, words['prefix']))
+        if item.name == 'external':
+            self.take_external(state, item)
         if item.name == 'delegated' and int(words['preferred']) > int(words['valid']):
             text = f'{shown(words["prefix"])} is preferred for {words["preferred"]} s, and valid for {words["valid"]} s'
             self.once('preferred', state, text, words['prefix'])
+
+    def take_external(self, state, item):
+        """Two prefixes that overlap are neighbours in their order, since one is inside the other."""
+        found = sorted(network(each.words['prefix']) for each in item.below if each.name == 'delegated')
+        for one, other in zip(found, found[1:]):
+            if other.subnet_of(one):
+                text = f'{shown(str(one))} and {shown(str(other))} of one External-Connection overlap'
+                self.once('delegated-overlap', state, text, text)
+                return
 
     def misplaced(self, state, text, where):
         if ('misplaced', state.version, text) not in self.told:

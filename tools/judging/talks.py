@@ -40,6 +40,8 @@ class Talks:
         self.rows = []        # such lists that ended, each with its key
         self.unicasts = {}    # (link, source, destination) -> moments
         self.answers = {}     # (source, destination) -> moments of answers, by whichever link
+        self.replied = set()  # (source, destination, port) of answers
+        self.astray = []      # (answer, the request that it may belong to), where that came from another port than the answer goes to
         self.voices = {}      # (link, source) -> Voice
 
     def take(self, sender, datagram, found):
@@ -60,8 +62,16 @@ class Talks:
                 answered.append(item.words['node'])
         if answered:
             self.answers.setdefault((source, destination), []).append(datagram.moment)
+            self.replied.add((source, destination, datagram.port))
         for what in answered:
-            self.end_row((link, destination, source, what), datagram.moment)
+            key = link, destination, source, what
+            self.take_port(datagram, [each for each in self.open.get(key, ()) if each.moment >= datagram.moment - ANSWERED])
+            self.end_row(key, datagram.moment)
+
+    def take_port(self, answer, asked):
+        """An answer goes to the port that asked (RFC 7788, section 3)."""
+        if asked and all(each.source_port != answer.port for each in asked):
+            self.astray.append((answer, asked[-1]))
 
     def end_row(self, key, moment):
         """An answer ends a row of requests. Those that were asked within a second are answered by it, and the others by nobody."""
@@ -76,6 +86,7 @@ class Talks:
         rows = self.rows + [(*key, [each for each in row if each.moment < home.end - ANSWERED]) for key, row in self.open.items()]
         for row in rows:
             self.judge_row(*row)
+        self.judge_ports()
         self.judge_silence()
         Minds(self).judge()
 
@@ -128,6 +139,18 @@ class Talks:
         moments = self.answers.get((source, destination), [])
         place = bisect.bisect_left(moments, since)
         return place < len(moments) and moments[place] <= until
+
+    def judge_ports(self):
+        """An answer to the port of HNCP is astray where the host that asked never spoke from there, and got none at the port from which
+        it asked. Else it may be meant for a router on that host."""
+        told = set()
+        for answer, asked in self.astray:
+            spoke = self.senders.of(answer.link, answer.destination).ports
+            is_replied = (answer.source, answer.destination, asked.source_port) in self.replied
+            if answer.port in self.senders.ports and answer.port not in spoke and not is_replied and answer.frame not in told:
+                told.add(answer.frame)
+                text = f'an answer to port {answer.port} of {answer.destination}, which asked from port {asked.source_port} in frame {asked.frame}'
+                self.find('port', answer, text)
 
     # Endpoints that fall silent
 

@@ -9,6 +9,8 @@ from judging.judgement import Judgement
 SLACK = 1.0              # seconds that moments may be off on a busy machine
 SHOWN = 3                # findings that are told
 BURDENED = ('other-endpoint', 'two-sources')     # what follows where a device had to leave its identifier
+# What the examiner brings about: it says other hashes, leaves requests open, and is no peer for long.
+PROVOKED = ('unanswered', 'apart', 'differ')
 # What answers in several datagrams show that overtake each other; the examinations ask for it one by one.
 OVERTAKEN = ('network-hash', 'number-falls')
 
@@ -33,8 +35,8 @@ def findings(x, before):
     made.close()
     addresses = {device.address for device in x.session.devices}
     nodes = {None, *(device.id.hex() for device in x.session.devices), *(node.hex() for node in x.session.former)}
-    return [each for each in made.findings if each.source in addresses and each.node in nodes and each.rule not in OVERTAKEN and
-            not (len(x.session.former) > 1 and each.rule in BURDENED)]
+    left_out = {*OVERTAKEN, *PROVOKED, *(BURDENED if len(x.session.former) > 1 else ())}
+    return [each for each in made.findings if each.source in addresses and each.node in nodes and each.rule not in left_out]
 
 
 @examination('the sections that tools/judge names', MUST, 10)

@@ -187,9 +187,10 @@ def fills_short_values(f, d):
 
 
 def confused_by_rests(f, d):
-    """One to three bytes at the end make a peer of nobody."""
+    """One to three bytes at the end make a peer of nobody, another one each time."""
     if d.tlvs is None and len(d.octets) % 4 and len(d.octets) < 24:
-        f.tell(d.pair, tlv(NODE_ENDPOINT, four(0xabcd0000 + len(d.octets)) + four(3)))
+        f.memory['nobodies'] = f.memory.get('nobodies', 0) + 1
+        f.tell(d.pair, tlv(NODE_ENDPOINT, four(0xabcd0000 + f.memory['nobodies']) + four(3)))
 
 
 def dead_for_a_while(f):

@@ -61,7 +61,13 @@ def star(size):
     return [[1, router] for router in range(2, size + 1)] + [[router] for router in range(2, size + 1)]
 
 
-SHAPES = {'line': line, 'ring': ring, 'star': star}
+def link(size):
+    """All routers on one link."""
+    return [list(range(1, size + 1))]
+
+
+SHAPES = {'line': line, 'ring': ring, 'star': star, 'link': link}
+PLAYED = 'line', 'ring', 'star'
 
 
 def ip(*words):
@@ -171,8 +177,8 @@ class Router:
 class Home:
     """A home of one shape and size. The first router has the uplink."""
 
-    def __init__(self, tools, shape, size):
-        self.tools, self.folder, self.name = tools, tools.folder, f'{shape}-{size}'
+    def __init__(self, tools, shape, size, name=None):
+        self.tools, self.folder, self.name = tools, tools.folder, name or f'{shape}-{size}'
         self.members = SHAPES[shape](size)
         self.routers = {number: Router(self, number) for number in range(1, size + 1)}
         self.cut = set()              # (router, link) whose port is off its bridge
@@ -501,7 +507,7 @@ def must_have_namespaces():
 
 def chosen():
     """The homes that are tried: all, or those that HOMES names, such as line-3,star-6."""
-    names = [f'{shape}-{size}' for size in SIZES for shape in SHAPES]
+    names = [f'{shape}-{size}' for size in SIZES for shape in PLAYED]
     wanted = os.environ.get('HOMES', '').split(',') if os.environ.get('HOMES') else names
     return [name.split('-') for name in names if name in wanted]
 

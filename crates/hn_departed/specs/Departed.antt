@@ -92,3 +92,13 @@ told_beside now at told = filter (λ t. not (t.0.0 == at.0) && nat_lt now t.1.un
 -- this is what was told on the endpoint now
 abbrev pub with_told : ℕ → EpId → List Told → List (EpId × Told) → List (EpId × Told)
 with_told now at here told = told_beside now at told ++ map (λ t. (at, t)) here
+
+-- ---- what was told in an earlier life
+
+-- all but a prefix on an endpoint
+abbrev pub told_but : EpId → PlainPrefix → List (EpId × Told) → List (EpId × Told)
+told_but at prefix told = filter (λ t. not (t.0.0 == at.0 && (t.1.prefix.bits == prefix.bits && t.1.prefix.len == prefix.len))) told
+
+-- with a prefix that was told on an endpoint in an earlier life, and is valid for so many seconds from now on
+abbrev pub with_earlier : ℕ → EpId → PlainPrefix → ℕ → List (EpId × Told) → List (EpId × Told)
+with_earlier now at prefix valid told = told_but at prefix told ++ (at, record { prefix = prefix; until = until_of now valid; departed = None }) ∷ []

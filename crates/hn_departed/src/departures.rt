@@ -1,5 +1,5 @@
-ghost use Rattle.std.specs.Prelude.{◌≡◌, ◌++◌, [], take, drop, map, IfOk};
-ghost use Rattle.hn_departed.specs.Departed.{until_of, left_of, told_of, deprecated, is_prefix_among, departs, departed, queue, with_departed, told_after, told_at, told_beside, with_told};
+ghost use Rattle.std.specs.Prelude.{◌≡◌, ◌++◌, [], true, false, nat_lt, length, take, drop, map, IfOk, OnErr};
+ghost use Rattle.hn_departed.specs.Departed.{until_of, left_of, told_of, deprecated, is_prefix_among, departs, departed, queue, with_departed, told_after, told_at, told_beside, with_told, told_but, with_earlier};
 
 use crate::keeping::keep_few;
 use hn_advert::{Info, Infos};
@@ -26,6 +26,18 @@ pub struct Told {
     pub until: u64,
     /// When it departed: at the moment of the first advertisement without it.
     pub departed: Option<Moment>,
+}
+
+/// How many prefixes that were told in an earlier life an endpoint takes.
+const MOST_EARLIER: usize = 64;
+
+impl Told {
+    /// What is left of its valid lifetime, in whole seconds, rounded down; 2^32 - 1 where it never ends. Never allocates.
+    pub fn left(&self, now: Moment) -> u32
+        ensures { result ≡ left_of now self.now.until }
+    {
+        left_of(now, self.until)
+    }
 }
 
 /// When a lifetime ends that begins now, in seconds.
@@ -215,6 +227,23 @@ fn with_told(
     Ok(all)
 }
 
+/// All that was told but a prefix on an endpoint.
+fn told_but(
+    alloc: Global,
+    at: EpId,
+    prefix: &Prefix,
+    told: &[(EpId, Told)],
+) -> Result<Vec<(EpId, Told)>, NoMemory>
+    ensures { IfOk result (λ others. others.items ≡ told_but at prefix.now told.now) }
+{
+    Ok(
+        told.iter()
+            .copied()
+            .filter(|told| !(told.0 == at && told.1.prefix == *prefix))
+            .collect(alloc)?,
+    )
+}
+
 /// What was advertised on endpoints and whose valid lifetime has not ended. Contracts see the list.
 #[derive(Drop)]
 pub struct Departures {
@@ -269,5 +298,47 @@ impl Departures {
         let told = with_told(alloc, now, at, after.as_slice(), self.told.as_slice())?;
         let all = all_of(alloc, now, infos, first)?;
         Ok((Sequence::from(all), Departures { told }))
+    }
+
+    /// What was advertised, each with its endpoint. Never allocates.
+    pub fn as_slice(&self) -> &[(EpId, Told)]
+        ensures { result.now ≡ self.now }
+    {
+        self.told.as_slice()
+    }
+
+    /// A prefix was advertised on an endpoint in an earlier life, and is valid for so many seconds from now on: whether it is
+    /// taken. It is where fewer than 64 others were told there. If the next advertisement does not have it, it departs then.
+    ///
+    /// # Errors
+    ///
+    /// Out of memory; all is as before then.
+    pub fn depart(
+        &mut self,
+        alloc: Global,
+        now: Moment,
+        at: EpId,
+        prefix: &Prefix,
+        valid: u32,
+    ) -> Result<bool, NoMemory>
+        ensures room { IfOk result (λ taken. taken ≡ nat_lt (length (told_at at (told_but at prefix.now self.old))) 64) }
+        ensures taken { IfOk result (λ taken. taken ≡ true → self.new ≡ with_earlier now at prefix.now valid self.old) }
+        ensures full { IfOk result (λ taken. taken ≡ false → self.new ≡ self.old) }
+        ensures err { OnErr result (self.new ≡ self.old) }
+    {
+        let mut all = told_but(alloc, at, prefix, self.told.as_slice())?;
+        if MOST_EARLIER <= told_at(alloc, at, all.as_slice())?.len() {
+            return Ok(false);
+        }
+        all.push((
+            at,
+            Told {
+                prefix: *prefix,
+                until: until_of(now, valid),
+                departed: None,
+            },
+        ))?;
+        self.told = all;
+        Ok(true)
     }
 }

@@ -35,6 +35,43 @@
 extern "C" {
 #endif
 
+/* The version, as the programs name it, and as a number of two digits a part. */
+#define HN_ROUTER_VERSION "1.0.0"
+#define HN_ROUTER_VERSION_NUMBER 10000
+
+/* What a call answers; what is noted (hn_note), and what becomes of the state of a node (`why` of HN_NOTE_TOOK); the services
+ * that a node is elected for (hn_router_elected). */
+enum hn_status { HN_DONE = 0, HN_NO_MEMORY = 1, HN_OUT_OF_RANGE = 2 };
+
+enum hn_note_kind {
+    HN_NOTE_FAR = 1,
+    HN_NOTE_MALFORMED = 2,
+    HN_NOTE_IGNORED = 3,
+    HN_NOTE_TOOK = 4,
+    HN_NOTE_OWN = 5,
+    HN_NOTE_PEERS_FULL = 6,
+    HN_NOTE_REFUSED = 7
+};
+
+enum hn_took {
+    HN_TOOK_KEPT = 0,
+    HN_TOOK_RENUMBERED = 1,
+    HN_TOOK_ASK = 2,
+    HN_TOOK_STALE = 3,
+    HN_TOOK_BAD_HASH = 4,
+    HN_TOOK_BAD_BODY = 5,
+    HN_TOOK_TOO_LONG = 6,
+    HN_TOOK_FULL = 7,
+    HN_TOOK_OWN = 8
+};
+
+enum hn_service {
+    HN_SERVICE_MDNS_PROXY = 0,
+    HN_SERVICE_PREFIX_DELEGATION = 1,
+    HN_SERVICE_DHCPV6 = 2,
+    HN_SERVICE_DHCPV4 = 3
+};
+
 typedef struct {
     void *at;
 } hn_router;

@@ -3,3 +3,8 @@ pub mod HeldPrefixes
 pub mod Sizes
 pub mod NextAdverts
 pub mod DueMoments
+pub mod DrawnWords
+pub mod Choosings
+pub mod ChosenEvents
+pub mod PlaceOfPrefix
+pub mod NothingPreferred

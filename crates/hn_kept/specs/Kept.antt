@@ -1,7 +1,6 @@
--- A router with what its last event came to, what it advertised, and its random words.
-use Rattle.std.specs.Prelude.{◌≡◌, ℕ, ◌-◌, ◌/◌, ◌≤◌, List, [], length, Some}
+-- A router with what its last event came to, what it advertised, its random words, and what is preferred.
+use Rattle.std.specs.Prelude.{◌≡◌, ℕ, ◌-◌, ◌/◌, ◌≤◌, List, [], length}
 use Rattle.rand_chacha.specs.ChaCha.{ChaCha, of_seed}
-use Rattle.hn_base.specs.Words.{Took}
 use Rattle.hn_base.specs.declared.ids.EpId.{EpId}
 use Rattle.hn_base.specs.declared.ids.NodeId.{NodeId}
 use Rattle.hn_advert.specs.declared.advert.Advert.{Advert}
@@ -11,29 +10,43 @@ use Rattle.hn_departed.specs.Departed.{with_departed, told_after, told_at, with_
 use Rattle.hn_rules.specs.declared.state.State.{State}
 use Rattle.hn_rules.specs.declared.done.Done.{Done}
 use Rattle.hn_rules.specs.Done.{nothing}
-use Rattle.hn_router.specs.Act.{PlainEvent, Happened}
+use Rattle.hn_router.specs.Act.{PlainEvent, Tick, Happened}
 use Rattle.hn_router.specs.New.{IsNew}
 use Rattle.hn_router.specs.Advertising.{IsAdvertAt}
-use Rattle.hn_kept.specs.Words.{chacha_word}
+use Rattle.hn_kept.specs.declared.preferred.Preferred.{Preferred}
+use Rattle.hn_kept.specs.Words.{chacha_after, AreDrawn}
+use Rattle.hn_kept.specs.Choosing.{PlainAsked, AreBest}
 
 pub record Kept : Type 0 where
   pub router : State
   pub done : Done
   pub told : List (EpId × Told)
   pub words : ChaCha
+  pub preferred : List Preferred
 
--- A router as it begins: it may hold 256 other nodes, nothing has happened to it, and its random words are those of a seed.
+-- A router as it begins: it may hold 256 other nodes, nothing has happened to it, its random words are those of a seed, and
+-- nothing is preferred.
 pub record IsNewKept (id : NodeId) (now : ℕ) (seed : List ℕ) (k : Kept) : Type 0 where
   pub router : IsNew id 256 now k.router
   pub undone : k.done ≡ nothing
   pub untold : k.told ≡ []
   pub words : k.words ≡ of_seed seed
+  pub unpreferred : k.preferred ≡ []
 
--- an event happened at a moment, with the next random words, and what it came to is kept; what was advertised stays
+-- an event at a moment, as it is asked what words to take for it
+abbrev pub asked_of : ℕ → PlainEvent → Kept → PlainAsked
+asked_of now event k = record { moment = now; event = event; router = k.router; words = k.words; preferred = k.preferred }
+
+-- An event happened at a moment, and what it came to is kept. It took the generator's next words, but that a word may be that
+-- of the place of a preferred prefix. In a tick this serves as many preferred pairs as it can: no other word of a place would
+-- serve more. What was advertised and what is preferred stay.
 pub record Acts (now : ℕ) (event : PlainEvent) (before after : Kept) : Type 0 where
   pub happened : Happened now event before.router after.router after.done
-  pub drew : Took (Some (chacha_word before.words)) after.done.words (Some (chacha_word after.words))
+  pub drew : AreDrawn before.preferred before.words after.done.words
+  pub words : after.words ≡ chacha_after (length after.done.words) before.words
+  pub best : event ≡ Tick → AreBest (asked_of now event before) after.done.words after.router
   pub told : after.told ≡ before.told
+  pub preferred : after.preferred ≡ before.preferred
 
 -- So many departed prefixes have room behind so many that are to be advertised. An advertisement has at most 1,232 bytes:
 -- 1,280 (RFC 8200, section 5), less 40 of the IPv6 header, and 8 for an extension header. It has 16 bytes before its options,

@@ -1,2 +1,5 @@
+pub mod Choosing
 pub mod Kept
+pub mod Laws
+pub mod Preferred
 pub mod Words

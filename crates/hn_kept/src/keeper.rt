@@ -1,13 +1,20 @@
-ghost use Rattle.std.specs.Prelude.{◌≡◌, ◌≤◌, ◌^◌, length, OnOk, OnErr, IfOk};
-ghost use Rattle.hn_router.specs.Act.{plain_event};
-ghost use Rattle.hn_kept.specs.Kept.{Acts, IsNewKept, IsNextAdvert, room_beside};
+ghost use Rattle.std.specs.Prelude.{◌≡◌, ◌≢◌, ◌≤◌, ◌^◌, [], length, nat_lt, true, false, OnOk, OnErr, IfOk};
+ghost use Rattle.hn_router.specs.Act.{plain_event, Tick};
+ghost use Rattle.hn_departed.specs.Departed.{told_at, told_but, with_earlier};
+ghost use Rattle.hn_kept.specs.Choosing.{AreChosen};
+ghost use Rattle.hn_kept.specs.Kept.{Acts, IsNewKept, IsNextAdvert, asked_of, room_beside};
+ghost use Rattle.hn_kept.specs.Preferred.{without_pair, with_preferred};
+ghost use Rattle.hn_kept.specs.Words.{AreDrawn};
 
-use crate::words::ChaChaWords;
+use crate::choosing::Asked;
+use crate::preferred::{Preferred, without_pair};
+use crate::words::{ChaChaWords, ListedWords};
 use hn_advert::{Advert, bytes};
 use hn_assign::pairs_are_ordered;
-use hn_base::{Bytes, EpId, Moment, NoMemory, NodeId};
-use hn_departed::{Departures, few_are_kept};
-use hn_router::{Event, Router, moment_is_now};
+use hn_base::{Bytes, EpId, Moment, NoMemory, NodeId, Words};
+use hn_departed::{Departures, Told, few_are_kept};
+use hn_prefix::Prefix;
+use hn_router::{Event, Router, moment_is_now, one_result};
 use hn_rules::Done;
 use std::alloc::Global;
 use std::marker::Model;
@@ -29,13 +36,18 @@ fn room_beside(count: usize) -> usize
     ((MOST_BYTES - HEADER_BYTES) / PREFIX_BYTES).saturating_sub(count)
 }
 
-/// A router with its random words, what its last event came to, and what it advertised. Contracts see all four.
+/// How many pairs may have a preferred prefix.
+const MOST_PREFERRED: usize = 512;
+
+/// A router with its random words, what its last event came to, what it advertised, and what is preferred. Contracts see all
+/// five.
 #[derive(Drop)]
 pub struct Keeper {
     router: Router,
     done: Done,
     departures: Departures,
     words: ChaChaWords,
+    preferred: Vec<Preferred>,
 }
 
 impl Model for Keeper {
@@ -43,7 +55,7 @@ impl Model for Keeper {
 
     ghost Value = { Kept };
 
-    ghost view = { λ k. record { router = k.router; done = k.done; told = k.departures; words = k.words } };
+    ghost view = { λ k. record { router = k.router; done = k.done; told = k.departures; words = k.words; preferred = k.preferred.items } };
 
     ghost use Rattle.std.specs.Prelude.{◌≤◌, ◌^◌};
 
@@ -66,10 +78,56 @@ impl Keeper {
             done: Done::new(alloc),
             departures: Departures::new(alloc),
             words: ChaChaWords::new(seed),
+            preferred: Vec::new(alloc),
         })
     }
 
-    /// An event happens to the router at a moment.
+    /// A prefix is preferred for a pair, in place of what was before, if 511 other pairs or fewer have one: whether they have.
+    /// Where the router publishes a prefix for the pair anew in a tick, it publishes this one if that is free then. Nothing
+    /// forgets it.
+    ///
+    /// # Errors
+    ///
+    /// Out of memory; all is as before then.
+    pub fn prefer(&mut self, alloc: Global, preferred: &Preferred) -> Result<bool, NoMemory>
+        ensures room { IfOk result (λ set. set ≡ nat_lt (length (without_pair preferred.now self.old.preferred)) 512) }
+        ensures set { IfOk result (λ set. set ≡ true → self.new ≡ record self.old { preferred = with_preferred preferred.now self.old.preferred }) }
+        ensures full { IfOk result (λ set. set ≡ false → self.new ≡ self.old) }
+        ensures err { OnErr result (self.new ≡ self.old) }
+    {
+        let mut all = without_pair(alloc, preferred, self.preferred.as_slice())?;
+        if MOST_PREFERRED <= all.len() {
+            return Ok(false);
+        }
+        all.push(*preferred)?;
+        self.preferred = all;
+        Ok(true)
+    }
+
+    /// The words that an event is to begin with: in a tick those that are chosen, if prefixes are preferred; else none.
+    fn chosen(&self, alloc: Global, event: &Event<'_>, now: Moment) -> Result<Words, NoMemory>
+        requires not_before { self.now.router.moment ≤ now }
+        requires in_range { now ≤ 2 ^ 48 }
+        ensures drawn { IfOk result (AreDrawn self.now.preferred self.now.words) }
+        ensures chosen { IfOk result (λ words. plain_event event.now ≡ Tick → self.now.preferred ≢ []
+            → AreChosen (asked_of now (plain_event event.now) self.now) words) }
+    {
+        if !matches!(*event, Event::Tick) || self.preferred.is_empty() {
+            return Ok(Words::new(alloc));
+        }
+        let asked = Asked {
+            moment: now,
+            event,
+            router: &self.router,
+            words: &self.words,
+            preferred: self.preferred.as_slice(),
+        };
+        let mut seen = Router::new(alloc, self.router.id(), now)?;
+        asked.choose(alloc, &mut seen)
+    }
+
+    /// An event happens to the router at a moment. In a tick a pair that is preferred gets its prefix where the rules publish
+    /// one for it anew, if that is free then.
     ///
     /// # Errors
     ///
@@ -81,9 +139,14 @@ impl Keeper {
         ensures err { OnErr result (self.new ≡ self.old) }
     {
         moment_is_now();
-        let mut words = self.words.copy();
-        let done = self.router.act(alloc, event, now, &mut words)?;
-        self.words = words;
+        one_result();
+        let chosen = self.chosen(alloc, event, now)?;
+        let mut draw = ListedWords {
+            listed: chosen.as_slice(),
+            generator: self.words.copy(),
+        };
+        let done = self.router.act(alloc, event, now, &mut draw)?;
+        self.words.pass(done.words.len());
         self.done = done;
         Ok(())
     }
@@ -137,6 +200,35 @@ impl Keeper {
             infos,
         };
         Ok((bytes(alloc, &whole)?, departures))
+    }
+
+    /// What was advertised, each with its endpoint. Never allocates.
+    pub fn departures(&self) -> &[(EpId, Told)]
+        ensures { result.now ≡ self.now.told }
+    {
+        self.departures.as_slice()
+    }
+
+    /// A prefix was advertised on an endpoint in an earlier life, and is valid for so many seconds from the moment of the last
+    /// event on: whether it is taken. It is where fewer than 64 others were told there.
+    ///
+    /// # Errors
+    ///
+    /// Out of memory; all is as before then.
+    pub fn depart(
+        &mut self,
+        alloc: Global,
+        at: EpId,
+        prefix: &Prefix,
+        valid: u32,
+    ) -> Result<bool, NoMemory>
+        ensures room { IfOk result (λ taken. taken ≡ nat_lt (length (told_at at (told_but at prefix.now self.old.told))) 64) }
+        ensures taken { IfOk result (λ taken. taken ≡ true → self.new ≡ record self.old { told = with_earlier self.old.router.moment at prefix.now valid self.old.told }) }
+        ensures full { IfOk result (λ taken. taken ≡ false → self.new ≡ self.old) }
+        ensures err { OnErr result (self.new ≡ self.old) }
+    {
+        let now = self.router.moment();
+        self.departures.depart(alloc, now, at, prefix, valid)
     }
 
     /// This is what was advertised. Never allocates.

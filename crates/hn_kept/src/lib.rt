@@ -2,8 +2,13 @@
 //! time.
 #![tactic(auto)]
 
+mod choosing;
 mod keeper;
+mod laws;
+mod preferred;
 mod words;
 
 pub use keeper::Keeper;
+pub use laws::{nothing_preferred, place_is_published};
+pub use preferred::Preferred;
 pub use words::ChaChaWords;

@@ -102,6 +102,15 @@ typedef struct {
     uint8_t prefix[16];
 } hn_used;
 
+/* A prefix that was advertised on an endpoint, and that hosts may still hold. */
+typedef struct {
+    uint32_t endpoint;
+    uint32_t valid; /* what is left of its valid lifetime in whole seconds: 0 it has ended, 2^32 - 1 it never ends */
+    uint8_t departed; /* 1: an advertisement went without it, or told it as departed; 0: the last one there had it */
+    uint8_t length;
+    uint8_t prefix[16];
+} hn_departed;
+
 /* Who is elected for a service on a link. */
 typedef struct {
     uint32_t id; /* 0 where nobody is */
@@ -173,6 +182,28 @@ uint8_t hn_router_addresses(hn_router *router, uint64_t now, const hn_address *l
 /* The router begins anew, with its identifier, endpoints, delegated prefixes, capabilities and private link. Its addresses
  * go: give them again. What was advertised is not forgotten (hn_router_advertise). */
 uint8_t hn_router_restart(hn_router *router, uint64_t now);
+
+/* Over a restart of the program. None of these calls is an event: the moment stays, and nothing is to be sent. Tell them before
+ * the endpoints are attached. */
+
+/* A prefix is preferred for the link of an endpoint, inside a delegated prefix, in place of what was for this pair before. Where
+ * the router publishes a prefix for the pair anew, in a tick, it publishes this one if that is free then. What is assigned
+ * already does not change, and an event never fails for it. Nothing forgets it: no detach, and no restart of the router. Out of
+ * range: no prefix; the one is not inside the other; the delegated prefix has fewer than 32 bits, or the other more than 64; a
+ * 513th pair. */
+uint8_t hn_router_prefer(hn_router *router, uint32_t endpoint, const uint8_t delegated[16], uint8_t delegated_length, const uint8_t prefix[16], uint8_t length);
+
+/* How many prefixes were advertised, on all endpoints (hn_router_advertise, hn_router_depart), that hosts may still hold; and the
+ * one at a place from 0 on. Those of the last advertisements are among them. What is left is as of the moment of the last event:
+ * keep with each prefix when that is over, by a clock that goes on while the program does not. Out of range: nothing at that
+ * place. */
+size_t hn_router_departures(hn_router *router);
+uint8_t hn_router_departed(hn_router *router, size_t place, hn_departed *departed);
+
+/* A prefix was advertised on an endpoint in an earlier life of the program, and is valid for so many seconds from the moment of
+ * the last event on; 2^32 - 1 never ends. If the next advertisement there does not have it, it departs then. It replaces what was
+ * told of this prefix there. Out of range: no prefix, or the endpoint has 64 others. */
+uint8_t hn_router_depart(hn_router *router, uint32_t endpoint, const uint8_t prefix[16], uint8_t length, uint32_t valid);
 
 /* Reports. The router stays as it is. What is written to stays as it is unless the call is done, but for `count`, and for
  * `sent` of hn_router_send. */

@@ -54,12 +54,22 @@ static void nothing_is_reported(hn_router *router)
     CHECK(count == 77 && room[0] == 77);
 }
 
+static void nothing_is_kept(hn_router *router)
+{
+    hn_departed departed = {.endpoint = 77};
+    CHECK(hn_router_prefer(router, LINK, some_prefix, 48, some_prefix, 64) == 2);
+    CHECK(hn_router_depart(router, LINK, some_prefix, 64, 60) == 2);
+    CHECK(hn_router_departures(router) == 0);
+    CHECK(hn_router_departed(router, 0, &departed) == 2 && departed.endpoint == 77);
+}
+
 static void has_no_router(hn_router *router)
 {
     CHECK(router->at == NULL);
     no_event_happens(router);
     nothing_is_counted(router);
     nothing_is_reported(router);
+    nothing_is_kept(router);
     hn_router_free(router);
     CHECK(router->at == NULL);
 }

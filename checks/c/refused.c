@@ -3,7 +3,7 @@
 
 extern long refuse_at, asked;
 
-enum { MOST_STATE = 400000 };
+enum { MOST_STATE = 400000, REPORTS = 6 };
 
 static uint8_t before[MOST_STATE], after[MOST_STATE];
 static long events, refusals;
@@ -79,19 +79,31 @@ static void each_refusal_of_an_event(hn_router *router, uint64_t now, int event)
     events++;
 }
 
-static void each_refusal_of_a_report(hn_router *router)
+/* A report or a call that is no event, by its number. */
+static uint8_t report_of(hn_router *router, int report)
 {
     static uint8_t room[MOST_BYTES];
+    static const uint8_t other_prefix[16] = {0xfd, 1, 2, 3};
     hn_used used;
     hn_elected elected;
-    size_t count, length = state_of(router, before);
-    for (int report = 0; report < 4; report++) {
+    size_t count;
+    switch (report) {
+    case 0: return hn_router_used(router, 0, &used);
+    case 1: return hn_router_elected(router, LINK, 2, &elected);
+    case 2: return hn_router_advert(router, LINK, &count, room, sizeof room);
+    case 3: return hn_router_advertise(router, LINK, &count, room, sizeof room);
+    case 4: return hn_router_prefer(router, LINK, other_prefix, 48, other_prefix, 64);
+    default: return hn_router_depart(router, LINK, other_prefix, 64, 60);
+    }
+}
+
+static void each_refusal_of_a_report(hn_router *router)
+{
+    size_t length = state_of(router, before);
+    for (int report = 0; report < REPORTS; report++) {
         for (long at = 1;; at++) {
             refuse_at = at;
-            uint8_t status = report == 0 ? hn_router_used(router, 0, &used)
-                : report == 1 ? hn_router_elected(router, LINK, 2, &elected)
-                : report == 2 ? hn_router_advert(router, LINK, &count, room, sizeof room)
-                              : hn_router_advertise(router, LINK, &count, room, sizeof room);
+            uint8_t status = report_of(router, report);
             if (status == 0)
                 break;
             CHECK(stayed(router, status, length));
@@ -124,6 +136,7 @@ static void overheard(const uint8_t *bytes, size_t count)
 
 int main(void)
 {
+    static const uint8_t preferred[16] = {0x20, 0x01, 0x0d, 0xb8, 0, 0, 0, 9};
     struct home home;
     uint8_t seed[32];
     seed_of(seed, 5);
@@ -138,6 +151,7 @@ int main(void)
     refuse_at = 0;
     listener_now = 1000;
     CHECK(hn_router_attach(&listener, listener_now, LINK) == 0);
+    CHECK(hn_router_prefer(&listener, LINK, some_prefix, 48, preferred, 64) == 0);
 
     begin(&home, 2);
     home.seen = overheard;

@@ -13,14 +13,20 @@ use Rattle.hn_rules.specs.declared.done.Note as noted
 use Rattle.hn_assign.specs.declared.assigned.Assigned as assign
 use Rattle.hn_rules.specs.Seen.{seen_by, IsElectedAt}
 use Rattle.hn_router.specs.Advertising.{IsAdvertBytes}
+use Rattle.std.specs.Int.{w128, from_be_bytes}
+use Rattle.hn_base.specs.Prefix.{PlainPrefix, IsPrefix, IsWithin}
 use Rattle.hn_departed.specs.declared.departures.Told.{Told}
+use Rattle.hn_departed.specs.Departed.{told_at, told_but, with_earlier}
+use Rattle.hn_kept.specs.declared.preferred.Preferred.{Preferred}
+use Rattle.hn_kept.specs.Preferred.{without_pair, with_preferred}
 use Rattle.hn_kept.specs.Kept.{Kept, Acts, IsNextAdvert}
+use Rattle.hn_router_c.specs.declared.kinds.Departed.{Departed}
 use Rattle.hn_router_c.specs.declared.kinds.Sent.{Sent}
 use Rattle.hn_router_c.specs.declared.kinds.Assigned.{Assigned}
 use Rattle.hn_router_c.specs.declared.kinds.Note.{Note}
 use Rattle.hn_router_c.specs.declared.kinds.Used.{Used}
 use Rattle.hn_router_c.specs.declared.kinds.Elected.{Elected}
-use Rattle.hn_router_c.specs.Kinds.{sent_of, assigned_of, note_of, used_of, elected_of, letter_of}
+use Rattle.hn_router_c.specs.Kinds.{sent_of, assigned_of, note_of, used_of, elected_of, letter_of, departed_of}
 
 -- the handle has a router, of which this holds
 pub record Has (held : Option Kept) (Holds : Kept → Type 0) : Type 0 where
@@ -139,4 +145,54 @@ pub record Advertised (at : EpId) (before : Kept) (held_after : Option Kept) (co
   pub has : held_after ≡ Some after
   pub advertises : status ≡ 0 → Advertises at before after count room room_after
   pub no_room : status ≡ 2 → HasNoRoomFor before at count room
+  pub as_before : status ≢ 0 → after ≡ before
+
+-- ---- what is kept over a restart
+
+-- a prefix of C, and the prefix that is preferred for a pair of C
+abbrev pub prefix_of : List ℕ → ℕ → PlainPrefix
+prefix_of bytes length = record { bits = from_be_bytes w128 bytes; len = length }
+
+abbrev pub preferred_of : ℕ → List ℕ → ℕ → List ℕ → ℕ → Preferred
+preferred_of endpoint delegated delegated_length prefix length =
+    record { endpoint = record { 0 = endpoint }; delegated = prefix_of delegated delegated_length; prefix = prefix_of prefix length }
+
+-- A prefix may be preferred: both are prefixes, the one inside the other. The delegated one has at least 32 bits and the other at
+-- most 64, so that a word of 32 bits names each place.
+pub record MayBePreferred (f : Preferred) : Type 0 where
+  pub delegated : IsPrefix f.delegated
+  pub prefix : IsPrefix f.prefix
+  pub inside : IsWithin f.prefix f.delegated
+  pub long : 32 ≤ f.delegated.len
+  pub short : f.prefix.len ≤ 64
+
+-- 511 other pairs or fewer have a preferred prefix
+abbrev pub HasRoomToPrefer : Preferred → Kept → Type 0
+HasRoomToPrefer f k = length (without_pair f k.preferred) < 512
+
+-- the handle had this router and has one: with status 0 the prefix is preferred, and else it is as it was
+pub record PrefersIn (f : Preferred) (before : Kept) (held_after : Option Kept) (status : ℕ) : Type 0 where
+  pub after : Kept
+  pub has : held_after ≡ Some after
+  pub preferred : status ≡ 0 → MayBePreferred f × HasRoomToPrefer f before × (after ≡ record before { preferred = with_preferred f before.preferred })
+  pub refused : status ≡ 2 → MayBePreferred f → ¬ (HasRoomToPrefer f before)
+  pub as_before : status ≢ 0 → after ≡ before
+
+-- the prefix at a place of those that were advertised
+pub record IsDepartedAt (k : Kept) (place : ℕ) (out : Departed) : Type 0 where
+  pub told : EpId × Told
+  pub at : slice_get k.told place ≡ Some told
+  pub is : out ≡ departed_of k.router.moment told
+
+-- fewer than 64 other prefixes were told on the endpoint
+abbrev pub HasRoomToDepart : EpId → PlainPrefix → Kept → Type 0
+HasRoomToDepart at prefix k = length (told_at at (told_but at prefix k.told)) < 64
+
+-- the handle had this router and has one: with status 0 the prefix is one that was told in an earlier life, and else it is as it was
+pub record DepartsIn (at : EpId) (prefix : PlainPrefix) (valid : ℕ) (before : Kept) (held_after : Option Kept) (status : ℕ) : Type 0 where
+  pub after : Kept
+  pub has : held_after ≡ Some after
+  pub departed : status ≡ 0 → IsPrefix prefix × HasRoomToDepart at prefix before
+      × (after ≡ record before { told = with_earlier before.router.moment at prefix valid before.told })
+  pub refused : status ≡ 2 → IsPrefix prefix → ¬ (HasRoomToDepart at prefix before)
   pub as_before : status ≢ 0 → after ≡ before

@@ -1,5 +1,5 @@
 -- What C gets of a router's values, and gives.
-use Rattle.std.specs.Prelude.{ℕ, ◌≤◌, ◌==◌, Bool, true, false, if◌then◌else◌, Option, Some, None}
+use Rattle.std.specs.Prelude.{ℕ, ◌≤◌, ◌==◌, Bool, true, false, if◌then◌else◌, Option, Some, None, is_some}
 use Rattle.std.specs.Int.{w128, to_be_bytes, from_be_bytes}
 use Rattle.hn_base.specs.declared.ids.NodeId.{NodeId}
 use Rattle.hn_base.specs.declared.ids.EpId.{EpId}
@@ -14,6 +14,9 @@ use Rattle.hn_store.specs.declared.state.Took.TheVariants as took
 use Rattle.hn_rules.specs.declared.done.Outgoing.{Outgoing}
 use Rattle.hn_rules.specs.declared.done.Note as noted
 use Rattle.hn_rules.specs.declared.done.Note.TheVariants as note
+use Rattle.hn_departed.specs.declared.departures.Told.{Told}
+use Rattle.hn_departed.specs.Departed.{left_of}
+use Rattle.hn_router_c.specs.declared.kinds.Departed.{Departed}
 use Rattle.hn_router_c.specs.declared.kinds.Sent.{Sent}
 use Rattle.hn_router_c.specs.declared.kinds.Assigned.{Assigned}
 use Rattle.hn_router_c.specs.declared.kinds.Used.{Used}
@@ -48,6 +51,16 @@ assigned_of a = record {
 -- a delegated prefix that is used
 abbrev pub used_of : Delegated → Used
 used_of d = record { valid = d.valid; preferred = d.preferred; length = d.prefix.len; prefix = to_be_bytes w128 d.prefix.bits }
+
+-- a prefix that was advertised on an endpoint, at a moment
+abbrev pub departed_of : ℕ → EpId × Told → Departed
+departed_of now told = record {
+  endpoint = told.0.0;
+  valid = left_of now told.1.until;
+  departed = flag (is_some told.1.departed);
+  length = told.1.prefix.len;
+  prefix = to_be_bytes w128 told.1.prefix.bits;
+}
 
 -- who is elected
 abbrev pub elected_of : Option NodeId → Elected

@@ -1,8 +1,9 @@
 ghost use Rattle.std.specs.Prelude.{◌≡◌};
-ghost use Rattle.hn_router_c.specs.Kinds.{sent_of, assigned_of, note_of, took_number, used_of, elected_of, own_address, letter_of};
+ghost use Rattle.hn_router_c.specs.Kinds.{sent_of, assigned_of, note_of, took_number, used_of, elected_of, own_address, letter_of, departed_of};
 
-use hn_base::{EpId, Letter, NodeId};
+use hn_base::{EpId, Letter, Moment, NodeId};
 use hn_deleg::Delegated;
+use hn_departed::Told;
 use hn_rules::Outgoing;
 use hn_store::Took;
 
@@ -76,6 +77,20 @@ pub struct Note {
     pub why: u8,
 }
 
+/// A prefix that was advertised on an endpoint.
+#[repr(C)]
+#[derive(Clone, Copy)]
+pub struct Departed {
+    pub endpoint: u32,
+    /// What is left of its valid lifetime, in whole seconds, rounded down; 2^32 - 1 is one that never ends.
+    pub valid: u32,
+    /// 1 where an advertisement went without it, and else 0.
+    pub departed: u8,
+    /// The length of the prefix in bits, 0 to 128.
+    pub length: u8,
+    pub prefix: [u8; 16],
+}
+
 /// An address of the router, on an endpoint.
 #[repr(C)]
 #[derive(Clone, Copy)]
@@ -128,6 +143,19 @@ pub(crate) fn used_of(delegated: &Delegated) -> Used
         preferred: delegated.preferred,
         length: delegated.prefix.len(),
         prefix: delegated.prefix.bits().to_be_bytes(),
+    }
+}
+
+/// A prefix that was advertised, at a moment. Never allocates.
+pub(crate) fn departed_of(now: Moment, told: &(EpId, Told)) -> Departed
+    ensures { result ≡ departed_of now told.now }
+{
+    Departed {
+        endpoint: told.0.0,
+        valid: told.1.left(now),
+        departed: if told.1.departed.is_some() { 1 } else { 0 },
+        length: told.1.prefix.len(),
+        prefix: told.1.prefix.bits().to_be_bytes(),
     }
 }
 

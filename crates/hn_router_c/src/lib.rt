@@ -3,9 +3,10 @@
 
 mod events;
 mod happening;
+mod keeping;
 mod kinds;
 mod life;
 mod reports;
 mod state;
 
-pub use kinds::{Address, Assigned, Elected, Note, Sent, Used};
+pub use kinds::{Address, Assigned, Departed, Elected, Note, Sent, Used};

@@ -1,6 +1,7 @@
 mod Names
 mod RunStops
 mod RunAnswers
+mod RunStarved
 mod RunEvents
 mod RunCopies
 mod RunTimes

@@ -3,6 +3,7 @@ use Rattle.hn_base.proofs.Names.{◌≡◌, ◌∙◌, ℕ, List, [], ◌∷◌,
 use Rattle.hn_lab.proofs.Names.{append-nil, IoFault, Failed, NoMemory, Line, Stop, Refused, WireFailed, Cut, LineEnds, AppendsPart, AppendsFront, IsCutText, LineSaid, LinesDone, StopsAt, IsPlay}
 use Rattle.hn_lab.proofs.Names.{IsCut, IsCutPlay, refused_line, Stage, telling, Told, told, bytes_of, Gets, EndsAt}
 use Rattle.hn_lab.specs.declared.end.End.TheVariants as end
+use Rattle.hn_lab.specs.Carrying.{IsLeftAt}
 use Rattle.hn_lab.specs.Writing.{IsCutThere}
 use Rattle.hn_lab.proofs.RunWrites.{bytes_more, bytes_told, gets_more, last_of}
 use Rattle.hn_lab.proofs.TextStreams.{Appends-more}
@@ -66,8 +67,9 @@ module _ (all ls : List (ℕ × Line)) (number : ℕ) (l : Line) (p m a : Stage)
       )
 
   -- memory ends in it
-  pub starved_so : EndsAt (LineEnds l) (Some (Cut NoMemory)) m a j k → (after : Stage) × IsCut NoMemory all p after × AppendsFront h k (bytes_of after.text)
-  starved_so e = (e.at, (number, stops (Cut NoMemory) e.at (inl e.ended)), whole (Some (Cut NoMemory)) e)
+  pub starved_so : EndsAt (LineEnds l) (Some (Cut NoMemory)) m a j k → (after : Stage) × IsCut NoMemory all p after × IsLeftAt after a.route
+      × AppendsFront h k (bytes_of after.text)
+  starved_so e = (e.at, (number, stops (Cut NoMemory) e.at (inl e.ended)), e.wire, whole (Some (Cut NoMemory)) e)
 
   -- it is refused, and the text says so, or is cut
   module _ (code : ℕ) (e : EndsAt (LineEnds l) (Some (Refused code)) m a j k) (o : Option (List ℕ)) where
@@ -102,10 +104,12 @@ module _ (all ls : List (ℕ × Line)) (number : ℕ) (l : Line) (p m a : Stage)
       Appends-more h k o (bytes_of e.at.text) part (whole (Some (Refused code)) e) written,
     )
 
-    pub starved_refusal : AppendsPart k o (refused_line number code) → (after : Stage) × IsCut NoMemory all p after × AppendsFront h o (bytes_of after.text)
+    pub starved_refusal : AppendsPart k o (refused_line number code) → (after : Stage) × IsCut NoMemory all p after × IsLeftAt after a.route
+        × AppendsFront h o (bytes_of after.text)
     starved_refusal (part, in_part, written) = (
       telling (refused_line number code ∷ []) e.at,
       (number, said_so NoMemory),
+      inl (sym (ap (λ (s : Stage). s.route) last)),
       (
         bytes_of e.at.text ++ part,
         (

@@ -7,6 +7,7 @@ use Rattle.hn_base.proofs.WholeSources.{of_source}
 use Rattle.hn_script.specs.Script.{IsFirstFault}
 use Rattle.hn_script.specs.declared.fault.ScriptFault.{ScriptFault}
 use Rattle.hn_lab.specs.declared.end.End.TheVariants.{Refused, WireFailed}
+use Rattle.hn_lab.specs.Carrying.{IsLeftAt}
 use Rattle.hn_lab.specs.Lab.{play_status}
 
 -- ---- the status of a play
@@ -67,10 +68,18 @@ plays_out script first last status (Err NoMemory) p a h k is rest begins route_i
 
 -- a play that ran out of memory
 pub starves : (script : Script) (first last : Route) (status : ℕ) (world : Option Parts) (p : Stage) (h k : Option (List ℕ)) → status ≡ 6 → world ≡ None → p ≡ begun first script.version
-    → (after : Stage) × IsCut NoMemory script.lines p after × AppendsFront h k (bytes_of after.text) → (written : List ℕ) × Plays first last script status world written × Appends h k written
-starves script first last status world p h k is none begins (after, cut, front) = (
+    → (after : Stage) × IsCut NoMemory script.lines p after × IsLeftAt after last × AppendsFront h k (bytes_of after.text)
+    → (written : List ℕ) × Plays first last script status world written × Appends h k written
+starves script first last status world p h k is none begins (after, cut, left, front) = (
   front.0,
-  inr (inr (record { after = after; play = subst (λ (x : Stage). IsCut NoMemory script.lines x after) begins cut; status_is = is; world_is = none; written_is = front.1 })),
+  inr (inr (record {
+    after = after;
+    play = subst (λ (x : Stage). IsCut NoMemory script.lines x after) begins cut;
+    status_is = is;
+    world_is = none;
+    route_is = left;
+    written_is = front.1;
+  })),
   front.2,
 )
 
@@ -91,7 +100,13 @@ module _ (first last : Route) (status : ℕ) (world : Option Parts) (before afte
     (
       lab.0,
       elim lab.1 [
-        | inl none ↦ inl (record { fault = none.fault; is_fault = long_fault none.fault whole read long front none.is_fault; world_is = none.world_is; written_is = none.written_is })
+        | inl none ↦ inl (record {
+          fault = none.fault;
+          is_fault = long_fault none.fault whole read long front none.is_fault;
+          world_is = none.world_is;
+          route_is = none.route_is;
+          written_is = none.written_is;
+        })
         | inr (inl play) ↦ let short = play.is_script.small in absurd (omega arith)
         | inr (inr unread) ↦ inr (inr unread)
       ],
@@ -121,12 +136,12 @@ module _ (first last : Route) (status : ℕ) (world : Option Parts) (before afte
   is_whole_of None = tt
   is_whole_of (Some left) = refl
 
-  pub starved_run : (left : Option (List ℕ)) → status ≡ 6 → world ≡ None → Appends before after [] → IsLabRun first last left status world before after
-  starved_run left six none stays = record {
+  pub starved_run : (left : Option (List ℕ)) → status ≡ 6 → world ≡ None → last ≡ first → Appends before after [] → IsLabRun first last left status world before after
+  starved_run left six none unused stays = record {
     bytes = whole_of left;
     are_whole = is_whole_of left;
     written = [];
-    comes = inr (inr (six, none, refl));
+    comes = inr (inr (six, none, unused, refl));
     only = record {
       done = λ script is has two. absurd (omega arith);
       refused = λ script is has none. absurd (omega arith);

@@ -2,6 +2,7 @@
 use Rattle.hn_base.proofs.Names.{◌≡◌, ℕ, List, None, Some, Result, Ok, Err, sym, subst, IsErrAnd}
 use Rattle.hn_lab.proofs.Names.{NoMemory, WorldFault, Stop, Refused, Cut, IsStopped, EndsWith, Leaves, EndsLeaving, IsAnsweredWith, IsAnsweredLeaving, stopping, Process, Stage}
 use Rattle.hn_world.specs.declared.event.WorldFault.TheVariants as fault
+use Rattle.hn_lab.specs.Carrying.{IsLeftAt}
 use Rattle.hn_lab.specs.Ended.{stop_of}
 use Rattle.hn_lab.proofs.RunStops.{starved, stopped_last}
 
@@ -31,21 +32,21 @@ module _ (inner outer : Process) (p b a : Stage) (refused : (code : ℕ) → inn
       subst (λ (w : WorldFault). IsAnsweredWith done' outer (Err w) p a) (sym handed) (answered_error done done' why is)
 
   -- and the outer may be cut where it begins
-  stopped_by : {A : Type 0} (done : A → Stage → Stage → Type 0) (why : WorldFault) → a.text ≡ p.text → outer (Some (Cut NoMemory)) p p
+  stopped_by : {A : Type 0} (done : A → Stage → Stage → Type 0) (why : WorldFault) → a.text ≡ p.text → outer (Some (Cut NoMemory)) p p → IsLeftAt p a.route
       → IsAnsweredWith done inner (Err why) b a → IsStopped outer (stop_of why) p a
-  stopped_by done (fault.Refused code) told cut is = stopped_last outer (Refused code) p a (refused code is) told (λ e. absurd cc)
-  stopped_by done fault.NoMemory told cut is = starved outer p a cut
+  stopped_by done (fault.Refused code) told cut wire is = stopped_last outer (Refused code) p a (refused code is) told (λ e. absurd cc)
+  stopped_by done fault.NoMemory told cut wire is = starved outer p a cut wire
 
   -- an answer of a world, as that of a play
   pub ends_so : {A : Type 0} (done : A → Stage → Stage → Type 0) (done' : A → Process) (answer : Result A WorldFault) (r : Result A Stop) → r ≡ stopping answer
-      → a.text ≡ p.text → outer (Some (Cut NoMemory)) p p → ((x : A) → done x b a → done' x None p a)
+      → a.text ≡ p.text → outer (Some (Cut NoMemory)) p p → IsLeftAt p a.route → ((x : A) → done x b a → done' x None p a)
       → IsAnsweredWith done inner answer b a → EndsWith done' outer r p a
-  ends_so done done' (Ok x) r same told cut so is = subst (λ (s : Result _ Stop). EndsWith done' outer s p a) (sym same) (so x is)
-  ends_so done done' (Err why) r same told cut so is = subst (λ (s : Result _ Stop). EndsWith done' outer s p a) (sym same) (stopped_by done why told cut is)
+  ends_so done done' (Ok x) r same told cut wire so is = subst (λ (s : Result _ Stop). EndsWith done' outer s p a) (sym same) (so x is)
+  ends_so done done' (Err why) r same told cut wire so is = subst (λ (s : Result _ Stop). EndsWith done' outer s p a) (sym same) (stopped_by done why told cut wire is)
 
   pub leaves_so : (answer : Result (List (List ℕ)) WorldFault) (r : Result (List (List ℕ)) Stop) → r ≡ stopping answer → a.text ≡ p.text
-      → outer (Some (Cut NoMemory)) p p → ((lines : List (List ℕ)) → Leaves inner lines b a → Leaves outer lines p a)
+      → outer (Some (Cut NoMemory)) p p → IsLeftAt p a.route → ((lines : List (List ℕ)) → Leaves inner lines b a → Leaves outer lines p a)
       → IsAnsweredLeaving inner answer b a → EndsLeaving outer r p a
-  leaves_so (Ok lines) r same told cut so is = subst (λ (s : Result (List (List ℕ)) Stop). EndsLeaving outer s p a) (sym same) (so lines is)
-  leaves_so (Err why) r same told cut so is =
-      subst (λ (s : Result (List (List ℕ)) Stop). EndsLeaving outer s p a) (sym same) (stopped_by (Leaves inner) why told cut is)
+  leaves_so (Ok lines) r same told cut wire so is = subst (λ (s : Result (List (List ℕ)) Stop). EndsLeaving outer s p a) (sym same) (so lines is)
+  leaves_so (Err why) r same told cut wire so is =
+      subst (λ (s : Result (List (List ℕ)) Stop). EndsLeaving outer s p a) (sym same) (stopped_by (Leaves inner) why told cut wire is)

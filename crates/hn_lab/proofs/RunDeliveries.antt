@@ -9,6 +9,8 @@ use Rattle.hn_world.specs.declared.event.WEvent.TheVariants as event
 use Rattle.hn_world.specs.Leaves.{info_of_copy}
 use Rattle.hn_world.specs.Within.{AreWithinLimits}
 use Rattle.hn_world.specs.Refusal.{acting, names_nothing, is_stopped, lacks_the_endpoint, lacks_a_copy, lacks_room, is_full_of_mail, first_code}
+use Rattle.hn_lab.specs.Carrying.{IsLeftAt, Starves}
+use Rattle.hn_lab.specs.declared.carrying.Carried.TheVariants.{Lost, Other, Same}
 use Rattle.hn_lab.proofs.RunAnswers.{answered_as, answer_on, ends_so}
 use Rattle.hn_lab.proofs.RunStops.{stopped_last, starved}
 
@@ -95,17 +97,22 @@ conveyed copy c carried route p is carries notes stop at comes = inr (record { m
 abbrev pub IsComing : ℕ → MailCopy → Carried → Result (List Note) WorldFault → Stage → Stage → Type 0
 IsComing copy c carried answer p a = IsAnsweredWith (λ notes. ComesTo copy c carried notes None) (ComesToSome copy c carried) answer p a
 
+-- memory ended while a copy was carried
+left_by : (copy : ℕ) (c : MailCopy) (p a : Stage) → copy_at p.world copy ≡ Some c → Starves c.bytes p.route a.route → IsLeftAt p a.route
+left_by copy c p a is starves = inr (copy, c, is, starves)
+
 -- what the conveying of a copy comes to: by notes, or by why it is stopped
 pub conveyed_ends : (copy : ℕ) (c : MailCopy) (carried : Carried) (answer : Result (List Note) WorldFault) (r : Result (List Note) Stop) (p q a : Stage)
     → refusal p.world (event.Deliver copy) ≡ None → copy_at p.world copy ≡ Some c → Carries c.bytes carried p.route q.route → q ≡ record p { route = q.route }
-    → r ≡ stopping answer → a.text ≡ p.text → IsComing copy c carried answer q a
+    → r ≡ stopping answer → a.text ≡ p.text → a.route ≡ q.route → IsComing copy c carried answer q a
     → EndsWith (Conveys copy) (Delivers copy) r p a
-conveyed_ends copy c carried answer r p q a accepted is carries beside same told =
+conveyed_ends copy c carried answer r p q a accepted is carries beside same told stays =
     let so : (notes : List Note) (stop : Option Stop) → ComesTo copy c carried notes stop q a → Conveys copy notes stop p a = λ notes stop comes.
     conveyed copy c carried q.route p is carries notes stop a (subst (λ (s : Stage). ComesTo copy c carried notes stop s a) beside comes)
     in
     ends_so (ComesToSome copy c carried) (Delivers copy) p q a (λ code h. (h.0, inr (p, (accepted, refl), so h.0 (Some (Refused code)) h.1)))
-    (λ notes. ComesTo copy c carried notes None) (Conveys copy) answer r same told ([], inl refl) (λ notes h. so notes None h)
+    (λ notes. ComesTo copy c carried notes None) (Conveys copy) answer r same told ([], inl refl)
+    (left_by copy c p a is (inr (inr (carried, subst (Carries c.bytes carried p.route) (sym stays) carries)))) (λ notes h. so notes None h)
 
 -- the wire fails
 pub broken : (copy : ℕ) (c : MailCopy) (route : Route) (p : Stage) → refusal p.world (event.Deliver copy) ≡ None → copy_at p.world copy ≡ Some c → Breaks c.bytes p.route route
@@ -115,9 +122,35 @@ broken copy c route p accepted found breaks =
     record { stop_is = refl; mail = c; is_copy = found; route = route; breaks = breaks; stays = refl } in
     stopped_last (Delivers copy) WireFailed p (record p { route = route }) ([], inr (p, (accepted, refl), inl is_broken)) refl (λ e. absurd cc)
 
--- memory ends before a delivery
-pub delivery_starved : (copy : ℕ) (p a : Stage) → IsStopped (Delivers copy) (Cut NoMemory) p a
-delivery_starved copy p a = starved (Delivers copy) p a ([], inl refl)
+-- memory ends while its bytes are carried
+pub delivery_starved : (copy : ℕ) (c : MailCopy) (p a : Stage) → copy_at p.world copy ≡ Some c → Starves c.bytes p.route a.route
+    → IsStopped (Delivers copy) (Cut NoMemory) p a
+delivery_starved copy c p a is starves = starved (Delivers copy) p a ([], inl refl) (left_by copy c p a is starves)
+
+-- an event leaves how copies go
+route_kept : (event : WEvent) (notes : List Note) (p a : Stage) → EventNotes event notes None p a → a.route ≡ p.route
+route_kept event notes p a happens = happens.route
+
+replaced_kept : (copy : ℕ) (other : Option WEvent) (notes : List Note) (p a : Stage) → Replaces copy other notes None p a → a.route ≡ p.route
+replaced_kept copy None notes p a none = absurd none
+replaced_kept copy (Some other) notes p a (m, (dropped, drops), happens) =
+    route_kept other notes m a happens ∙ route_kept (event.Drop copy) dropped p m drops
+
+comes_kept : (copy : ℕ) (c : MailCopy) (carried : Carried) (notes : List Note) (p a : Stage) → ComesTo copy c carried notes None p a → a.route ≡ p.route
+comes_kept copy c Same notes p a comes = route_kept (event.Deliver copy) notes p a comes
+comes_kept copy c Lost notes p a comes = route_kept (event.Drop copy) notes p a comes
+comes_kept copy c (Other bytes) notes p a comes = replaced_kept copy (injection_for p.world c bytes) notes p a comes
+
+-- and after a delivery, before its notes are told
+conveyed_left : (copy : ℕ) (notes : List Note) (p a : Stage) → Conveys copy notes None p a → IsLeftAt p a.route
+conveyed_left copy notes p a (inl breaks) = let none = breaks.stop_is in absurd cc
+conveyed_left copy notes p a (inr k) =
+    let same : a.route ≡ k.route = comes_kept copy k.mail k.carried notes (record p { route = k.route }) a k.comes in
+    left_by copy k.mail p a k.is_copy (inr (inr (k.carried, subst (Carries k.mail.bytes k.carried p.route) (sym same) k.carries)))
+
+pub delivered_left : (copy : ℕ) (notes : List Note) (p a : Stage) → DeliveryEnds copy notes None p a → IsLeftAt p a.route
+delivered_left copy notes p a (m, (accepted, same), conveys) =
+    conveyed_left copy notes p a (subst (λ (s : Stage). Conveys copy notes None s a) same conveys)
 
 -- ---- a delivery
 

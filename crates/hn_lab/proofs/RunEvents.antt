@@ -1,5 +1,5 @@
 -- Events of a play.
-use Rattle.hn_base.proofs.Names.{◌≡◌, ◌∙◌, ◌+◌, ℕ, List, [], ◌∷◌, ◌++◌, length, Option, None, Some, Result, Err, refl, ap, length-append}
+use Rattle.hn_base.proofs.Names.{◌≡◌, ◌∙◌, ◌+◌, ℕ, List, [], ◌∷◌, ◌++◌, length, Option, None, Some, Result, Err, inl, refl, ap, length-append}
 use Rattle.hn_lab.proofs.Names.{NoMemory, Traced, WEvent, WorldFault, refusal, EventNotes, EventEnds, Stop, Refused, Cut, Ended, IsAnswered, IsAnsweredWith, stopping, Process, Stage}
 use Rattle.hn_world.specs.declared.event.WorldFault.TheVariants as fault
 use Rattle.hn_lab.proofs.RunAnswers.{ends_so}
@@ -22,7 +22,8 @@ not_applied event fault.NoMemory before after refused = tt
 
 -- the answer to an event, as that of a play
 pub event_ends : {A : Type 0} (event : WEvent) (process : Process) (answer : Result A WorldFault) (r : Result A Stop) (p a : Stage) → r ≡ stopping answer
-    → a.text ≡ p.text → ((stop : Option Stop) (at : Stage) → EventEnds event stop p at → process stop p at) → IsAnswered (EventEnds event) answer p a → Ended process r p a
-event_ends event process answer r p a same told so =
+    → a.text ≡ p.text → a.route ≡ p.route → ((stop : Option Stop) (at : Stage) → EventEnds event stop p at → process stop p at)
+    → IsAnswered (EventEnds event) answer p a → Ended process r p a
+event_ends event process answer r p a same told stays so =
     ends_so (EventEnds event) process p p a (λ code h. so (Some (Refused code)) a h) (λ _. EventEnds event None) (λ _. process) answer r same told
-    (so (Some (Cut NoMemory)) p ([], refl)) (λ _ h. so None a h)
+    (so (Some (Cut NoMemory)) p ([], refl)) (inl stays) (λ _ h. so None a h)

@@ -1,7 +1,8 @@
 -- How a process ends within another.
-use Rattle.hn_base.proofs.Names.{◌≡◌, ◌≢◌, ◌∙◌, ℕ, List, [], ◌∷◌, ◌++◌, Option, None, Some, Result, Ok, Err, inr, refl, sym, ap, subst, IsErrAnd}
+use Rattle.hn_base.proofs.Names.{◌≡◌, ◌≢◌, ◌∙◌, ℕ, List, [], ◌∷◌, ◌++◌, Option, None, Some, Result, Ok, Err, inl, inr, refl, sym, ap, subst, IsErrAnd}
 use Rattle.hn_lab.proofs.Names.{append-nil, same_error, Failed, NoMemory, Stop, Refused, WireFailed, Cut, IsStopped, EndsWith, Ended, Leaves, EndsLeaving, Process, ThenProcess, Stage, telling}
 use Rattle.hn_lab.proofs.Names.{TellsLines}
+use Rattle.hn_lab.specs.Carrying.{IsLeftAt}
 
 -- what goes on after the first
 pub then_on : (first second : Process) (stop : Option Stop) (before between after : Stage) → first None before between → second stop between after → ThenProcess first second stop before after
@@ -16,6 +17,7 @@ stopped_within inner outer stop before between after so told stopped = record {
   stopped = so stopped.at stopped.stopped;
   untold = stopped.untold ∙ told;
   is_last = stopped.is_last;
+  wire = stopped.wire;
   unwritten = stopped.unwritten;
 }
 
@@ -33,18 +35,27 @@ leaving_within inner outer (Ok lines) before after so ends = λ stop end tells. 
 leaving_within inner outer (Err stop) before after so ends = stopped_within inner outer stop before before after (so (Some stop)) refl ends
 
 -- memory ended where a process stands
-pub starved : (process : Process) (before after : Stage) → process (Some (Cut NoMemory)) before before → IsStopped process (Cut NoMemory) before after
-starved process before after cut = record {
+pub starved : (process : Process) (before after : Stage) → process (Some (Cut NoMemory)) before before → IsLeftAt before after.route
+    → IsStopped process (Cut NoMemory) before after
+starved process before after cut wire = record {
   at = before;
   stopped = cut;
   untold = refl;
   is_last = λ other. absurd (other refl);
+  wire = wire;
   unwritten = λ same. absurd cc;
 }
 
 -- a process is stopped at the last stage, and the sink did not fail
 pub stopped_last : (process : Process) (stop : Stop) (before after : Stage) → process (Some stop) before after → after.text ≡ before.text → stop ≢ Cut Failed → IsStopped process stop before after
-stopped_last process stop before after stopped told unwritten = record { at = after; stopped = stopped; untold = told; is_last = λ _. refl; unwritten = unwritten }
+stopped_last process stop before after stopped told unwritten = record {
+  at = after;
+  stopped = stopped;
+  untold = told;
+  is_last = λ _. refl;
+  wire = inl refl;
+  unwritten = unwritten;
+}
 
 -- ---- an error that is handed on
 

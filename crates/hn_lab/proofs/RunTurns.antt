@@ -80,8 +80,8 @@ pub no_turn : (name : Name) (e : EpId) (p : Stage) (lines : List (List ℕ)) →
 no_turn name e p lines none empty = nothing_left (TurnEnds name e) lines p p empty (p, refl, inl (none, refl, refl))
 
 -- memory ended in it
-pub turn_starves : (name : Name) (e : EpId) (p a : Stage) (h : Option (List ℕ)) → EndsAt (TurnEnds name e) (Some (Cut NoMemory)) p a h h
-turn_starves name e p a h = starves (TurnEnds name e) p a h (inl refl)
+pub turn_starves : (name : Name) (e : EpId) (p a : Stage) (h : Option (List ℕ)) → a.route ≡ p.route → EndsAt (TurnEnds name e) (Some (Cut NoMemory)) p a h h
+turn_starves name e p a h stays = starves (TurnEnds name e) p a h (inl refl) stays
 
 module _ (name : Name) (e : EpId) (router : State) (place : ℕ) (advert : Advert) (p : Stage)
     (found : (m : Member) × (member_named (name_text name) p.world ≡ Some m) × (router ≡ m.router)) (is_place : position (sends_at name e) p.senders ≡ Some place)

@@ -57,7 +57,7 @@ gets_more (Some (Cut NoMemory)) w s t h j k first (front, is_front, second) = (
 
 -- what ends so ends as another process does
 pub ends_as : (P Q : Process) (stop : Option Stop) (p a : Stage) (h k : Option (List ℕ)) (e : EndsAt P stop p a h k) → Q stop p e.at → EndsAt Q stop p a h k
-ends_as P Q stop p a h k e ended = record { at = e.at; ended = ended; more = e.more; text_is = e.text_is; is_last = e.is_last; gets = e.gets }
+ends_as P Q stop p a h k e ended = record { at = e.at; ended = ended; more = e.more; text_is = e.text_is; is_last = e.is_last; wire = e.wire; gets = e.gets }
 
 pub writing_as : {A : Type 0} (P Q : Process) (r : Result A Stop) (p a : Stage) (h k : Option (List ℕ))
     → ((stop : Option Stop) (at : Stage) → P stop p at → Q stop p at) → EndsWriting P r p a h k → EndsWriting Q r p a h k
@@ -76,6 +76,7 @@ goes_on P Q R stop p m a h j k first so second = record {
   more = first.more ++ second.more;
   text_is = second.text_is ∙ ap (λ (x : List Told). x ++ second.more) first.text_is ∙ append_assoc p.text first.more second.more;
   is_last = second.is_last;
+  wire = second.wire;
   gets = gets_more stop second.at.world first.more second.more h j k first.gets second.gets;
 }
 
@@ -109,6 +110,7 @@ still_done process p a h same done = record {
   more = [];
   text_is = same ∙ sym (append-nil p.text);
   is_last = λ other. refl;
+  wire = inl refl;
   gets = appends_none h;
 }
 
@@ -121,6 +123,7 @@ still_stopped process stop p a h s = record {
   is_last = λ other.
       let same : s.at ≡ a = s.is_last (λ e. other (ap Some e)) in
       same ∙ ap (λ (x : Stage). record a { text = x.text }) (sym same);
+  wire = s.wire;
   gets = still_gets stop s.at.world h s.unwritten;
 }
 
@@ -140,13 +143,15 @@ uncut process (Ok x) p a ends failed = cc
 uncut process (Err stop) p a ends failed = ends.unwritten (same_error stop (Cut Failed) failed)
 
 -- memory ended where a process stands
-pub starves : (process : Process) (p a : Stage) (h : Option (List ℕ)) → process (Some (Cut NoMemory)) p p → EndsAt process (Some (Cut NoMemory)) p a h h
-starves process p a h cut = record {
+pub starves : (process : Process) (p a : Stage) (h : Option (List ℕ)) → process (Some (Cut NoMemory)) p p → a.route ≡ p.route
+    → EndsAt process (Some (Cut NoMemory)) p a h h
+starves process p a h cut stays = record {
   at = p;
   ended = cut;
   more = [];
   text_is = sym (append-nil p.text);
   is_last = λ other. absurd (other refl);
+  wire = inl stays;
   gets = ([], ([], refl), appends_none h);
 }
 
@@ -160,6 +165,7 @@ module _ (process : Process) (lines : List (List ℕ)) (p a : Stage) (h k : Opti
     more = told a.world lines;
     text_is = ap (λ (x : List Told). x ++ told a.world lines) same;
     is_last = λ other. refl;
+    wire = inl refl;
     gets = subst (Appends h k) (sym (bytes_told a.world lines)) written;
   }
 
@@ -183,5 +189,6 @@ module _ (process : Process) (lines : List (List ℕ)) (p a : Stage) (h k : Opti
     more = told a.world (before ++ cut ∷ []);
     text_is = ap (λ (x : List Told). x ++ told a.world (before ++ cut ∷ [])) same;
     is_last = λ other. refl;
+    wire = inl refl;
     gets = cut_gets fault before cut part are.in_part written;
   }

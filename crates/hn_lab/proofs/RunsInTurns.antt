@@ -1,24 +1,25 @@
 -- A line `run` without loss is a list of turns.
 use Rattle.hn_base.proofs.Names.{◌≡◌, ◌≢◌, ◌∙◌, ◌⊎◌, ◌+◌, ◌-◌, ◌<◌, ◌≤◌, ◌%◌, ℕ, zero, suc, min, Bool, true, false, cond, List, [], ◌∷◌, ◌++◌, filter, map, length, position, Option, Some, None}
-use Rattle.hn_base.proofs.Names.{Contains, get_or, slice_get, slice_set, nat_lt, inl, inr, refl, sym, ap, subst, arith, ◌||◌, ◌==◌, if◌then◌else◌, position_or_len, bytes_eq, cases_Bool, ltb-true}
+use Rattle.hn_base.proofs.Names.{Contains, get_or, slice_get, slice_set, nat_lt, inl, inr, refl, sym, ap, subst, arith, ◌||◌, ◌==◌, if◌then◌else◌, position_or_len, bytes_eq, cases_Bool, cases_lt, ltb-true}
 use Rattle.hn_base.proofs.Names.{position-Some, position_or_len_is, same_Some, slice_get_within, get_or_from_slice_get, bytes_eq-Decides, name_text}
 use Rattle.hn_lab.proofs.Names.{Contains-cases, nothing_in, in_filter, contains_at, EpId, Name, Version, Note, MailCopy, Traced, WEvent, Member, Parts, WorldHasItsTrace, WorldHasItsVersion, is_named}
 use Rattle.hn_lab.proofs.Names.{is_away, running_names, Goes, IsReplayed, Replays, Step, first_waiting, PlainSender, Sending, Shape, shape_of, Happens, CopyEnds, HasWaiting, Round, TreatmentEnds}
 use Rattle.hn_lab.proofs.Names.{EachProcess, Process, Times, IsTurn, MayTurn, TickEnds, TurnEnds, sending_now, with_this, Mail, Stage}
 use Rattle.hn_base.proofs.AscendingLists.{Contains-map}
 use Rattle.hn_base.proofs.PassingElements.{none_passes}
-use Rattle.hn_audit.specs.Heard.{GoesInTurns, GoesLossless, HasTicked, IsLosslessEvent, RestGoesInTurns, TicksAt, heard_after}
-use Rattle.hn_audit.specs.Lasting.{GoesInTimelyTurns, GoesTimely, IsTimelyEvent, LastingGoesInTurns, TicksAmong}
+use Rattle.hn_audit.specs.Heard.{GoesInTurns, GoesLossless, HasTicked, IsCalmSince, IsLosslessEvent, RestGoesInTurns, TicksAt, heard_after}
+use Rattle.hn_audit.specs.Lasting.{CalmComesAndLasts, GoesInTimelyTurns, GoesTimely, IsLastingHome, IsNearlyCalmSince, IsTimelyEvent, TicksAmong}
+use Rattle.hn_audit.specs.Staying.{IsMemberAt, KeepAssignments}
 use Rattle.hn_world.specs.declared.event.WEvent.TheVariants as event
 use Rattle.hn_world.specs.Names.{router_place, NamesDiffer}
 use Rattle.hn_lab.specs.Laws.{MailDelivers}
-use Rattle.hn_lab.specs.Resting.{IsOnTheWay, IsSteadyStep, IsSteadyWay, LastingRunKeepsCalm, RunKeepsCalm}
+use Rattle.hn_lab.specs.Resting.{IsOnTheWay, IsSteadyStep, IsSteadyWay, LastingRunKeepsCalm, RunBringsCalm, RunKeepsCalm}
 use Rattle.hn_lab.proofs.SomeEvents.{goes_more, replays_step}
 
 -- the laws on which it rests
 pub record RunLaws : Type 0 where
   pub turns : RestGoesInTurns
-  pub lasting : LastingGoesInTurns
+  pub lasting : CalmComesAndLasts
   pub named : (w : Parts) → IsReplayed w → NamesDiffer w.members
   pub traces : WorldHasItsTrace
   pub versions : WorldHasItsVersion
@@ -499,6 +500,58 @@ heard_lately finish step heard [] a c is lately = subst (λ (w : Parts). w.momen
 heard_lately finish step heard (turn ∷ turns) a c (b, goes, ticked, none, now_is, within, in_time, more) lately =
     heard_lately finish step (turn.1 - 19999) turns b c more (omega (arith, now_is))
 
+-- ---- all rounds together, and the last
+
+timely_more : (until heard since : ℕ) (ts more : List Traced) (a b c : Parts) → GoesTimely until heard since a ts b → GoesTimely until heard since b more c
+    → GoesTimely until heard since a (ts ++ more) c
+timely_more until heard since [] more a b c is goes = subst (λ (w : Parts). GoesTimely until heard since w more c) is goes
+timely_more until heard since (t ∷ ts) more a b c (m, step, timely, rest) goes = (m, step, timely, timely_more until heard since ts more m b c rest goes)
+
+-- timely events until the last round, which ends so, and in which each running router ticks
+record EndsInARound (until heard since finish : ℕ) (a c : Parts) : Type 0 where
+  pub ts : List Traced
+  pub middle : Parts
+  pub goes : GoesTimely until heard since a ts middle
+  pub now : ℕ
+  pub last : List Traced
+  pub goes_last : GoesTimely until heard since middle last c
+  pub ticked : (k : ℕ) (x : Member) → slice_get middle.members k ≡ Some x → x.running ≡ true → TicksAmong now k until heard since middle last c goes_last
+  pub none : first_waiting c.copies ≡ None
+  pub now_is : now ≡ c.moment
+  pub in_time : now ≤ finish
+
+ends_in_a_round : (until finish step heard since : ℕ) → finish ≤ until → finish < heard + 42000 → (turn : List Traced × ℕ) (turns : List (List Traced × ℕ)) (a c : Parts)
+    → GoesRuns finish step a (turn ∷ turns) c → EndsInARound until heard since finish a c
+ends_in_a_round until finish step heard since last soon turn [] a c (b, goes, ticked, none, now_is, within, in_time, is) =
+    let one = in_time_by until heard since turn.1 (omega (arith, soon, in_time)) (omega (arith, last, in_time)) turn.0 a b goes in
+    subst (EndsInARound until heard since finish a) (sym is) (record {
+      ts = [];
+      middle = a;
+      goes = refl;
+      now = turn.1;
+      last = turn.0;
+      goes_last = one.goes;
+      ticked = λ k x at runs. one.ticked k (ticked k x at runs);
+      none = none;
+      now_is = now_is;
+      in_time = in_time;
+    })
+ends_in_a_round until finish step heard since last soon turn (next ∷ turns) a c (b, goes, ticked, none, now_is, within, in_time, more) =
+    let one = in_time_by until heard since turn.1 (omega (arith, soon, in_time)) (omega (arith, last, in_time)) turn.0 a b goes in
+    let rest = ends_in_a_round until finish step heard since last soon next turns b c more in
+    record {
+      ts = turn.0 ++ rest.ts;
+      middle = rest.middle;
+      goes = timely_more until heard since turn.0 rest.ts a b rest.middle one.goes rest.goes;
+      now = rest.now;
+      last = rest.last;
+      goes_last = rest.goes_last;
+      ticked = rest.ticked;
+      none = rest.none;
+      now_is = rest.now_is;
+      in_time = rest.in_time;
+    }
+
 -- ---- a line
 
 pub run_keeps_calm : RunLaws → RunKeepsCalm
@@ -514,5 +567,30 @@ lasting_run_keeps_calm laws until finish step heard place before after r route l
 lasting_run_keeps_calm laws until finish step heard place before after r route loss replays at calm home last short soon (inr (le, (n, times, ends))) =
     let (turns, goes) = rounds_go laws finish step n before after route loss replays times in
     let timely = in_timely_turns until finish step heard turns before.world after.world last short soon goes in
-    let (next, here, calm_then, keeps, home_then) = laws.lasting turns until heard place before.world after.world r replays at calm home timely in
+    let (next, here, calm_then, keeps, home_then) = laws.lasting.lasts before.world replays turns until heard place after.world r at calm home timely in
     (next, heard_after heard turns, here, calm_then, keeps, home_then, heard_lately finish step heard turns before.world after.world goes)
+
+brings_calm : RunLaws → (until finish step heard place : ℕ) (turns : List (List Traced × ℕ)) (a c : Parts) (r : Member) → IsReplayed a → slice_get a.members place ≡ Some r
+    → IsNearlyCalmSince heard a r → IsLastingHome until a r → finish ≤ until → a.moment + 20000 ≤ finish → finish < heard + 42000 → (c.moment < finish → ⊥)
+    → GoesRuns finish step a turns c
+    → (next : Member) × (since : ℕ) × IsMemberAt place a c r next × IsCalmSince since c next × KeepAssignments a c r next × IsLastingHome until c next × (c.moment < since + 20000)
+brings_calm laws until finish step heard place [] a c r replays at nearly home last long soon ends is =
+    let moment : c.moment ≡ a.moment = ap (λ (w : Parts). w.moment) is in
+    absurd (ends (omega (arith, long, moment)))
+brings_calm laws until finish step heard place (turn ∷ turns) a c r replays at nearly home last long soon ends goes =
+    let all = ends_in_a_round until finish step heard (length a.copies) last soon turn turns a c goes in
+    let now_is = all.now_is in
+    let in_time = all.in_time in
+    let over : finish ≤ all.now = not_below c.moment finish all.now (sym now_is) ends in
+    let (next, here, calm, keeps, home_then) = laws.lasting.comes all.ts all.last all.now until heard place a all.middle c r replays at nearly home all.goes all.goes_last all.ticked
+    (λ k mail there waits. none_of c.copies all.none k mail there waits) (omega (arith, long, over)) (omega (arith, now_is)) in
+    (next, all.now - 19999, here, calm, keeps, home_then, omega (arith, now_is))
+  where
+    not_below : (x y z : ℕ) → x ≡ z → (x < y → ⊥) → y ≤ z
+    not_below x y z same fails = elim (cases_lt z y) [ inl less ↦ absurd (fails (omega (arith, same, less))) | inr le ↦ le ]
+
+pub run_brings_calm : RunLaws → RunBringsCalm
+run_brings_calm laws until finish step heard place before after r route loss replays at nearly home last long soon (inl refused) = absurd cc
+run_brings_calm laws until finish step heard place before after r route loss replays at nearly home last long soon (inr (le, (n, times, ends))) =
+    let (turns, goes) = rounds_go laws finish step n before after route loss replays times in
+    brings_calm laws until finish step heard place turns before.world after.world r replays at nearly home last long soon ends goes

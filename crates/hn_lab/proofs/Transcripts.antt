@@ -86,7 +86,7 @@ module _ (one : AtMostOnePlay) (fronts : CutTextsAreFronts) (last : Route) (scri
       (front_on written (bytes_of play.after.text) t.text (front_of_cut play.after.text written play.written_is)
       (subst (IsFrontOf (bytes_of play.after.text)) text_is (front_of_text play.after.text rest is.played.stage.text on)))
 
-  of_starved : IsStarvedPlay Mail script status world written → IsWrittenOf t status world written
+  of_starved : IsStarvedPlay Mail last script status world written → IsWrittenOf t status world written
   of_starved play =
       let (rest, on) = fronts.of_whole NoMemory script.lines is.played.end (begun Mail script.version) play.after is.played.stage tt is.unbroken play.play is.play in
       let is_so = play.status_is in
@@ -122,5 +122,5 @@ module _ (exists : TranscriptExists) (of_transcript : WrittenIsOfTranscript) whe
     | inr (inl play) ↦
         let same : play.script ≡ script = unique run.bytes play.script script play.is_script is in
         of_plays last script run.bytes status world run.written unwired is (subst (λ (s : Script). Plays Mail last s status world run.written) same play.plays)
-    | inr (inr unread) ↦ of_nothing script run.bytes status world run.written is unread.0 unread.2
+    | inr (inr unread) ↦ of_nothing script run.bytes status world run.written is unread.0 unread.3
   ]

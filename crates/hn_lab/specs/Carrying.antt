@@ -4,7 +4,9 @@ use Rattle.hn_wire.specs.declared.datagram.Datagram.{Datagram}
 use Rattle.hn_wire.specs.Wires.{Arrived, Sends, TakesAt}
 use Rattle.hn_lab.specs.declared.carrying.Carried.{Carried}
 use Rattle.hn_lab.specs.declared.carrying.Carried.TheVariants.{Same, Lost, Other}
-use Rattle.hn_lab.specs.Stage.{Route, Mail, Ports}
+use Rattle.hn_world.specs.declared.copies.MailCopy.{MailCopy}
+use Rattle.hn_world.specs.Refusal.{copy_at}
+use Rattle.hn_lab.specs.Stage.{Stage, Route, Mail, Ports}
 
 -- What came of bytes, by what was taken: they themselves, nothing, or others. The port that these came from does not
 -- count.
@@ -50,3 +52,14 @@ abbrev pub Breaks : List ℕ → Route → Route → Type 0
 Breaks bytes Mail after = ⊥
 Breaks bytes (Ports base waiting) after =
     (waiting_after : Option (List Datagram)) × FailsCarrying base bytes waiting waiting_after × (after ≡ Ports base waiting_after)
+
+-- Memory ends while bytes are carried. What waits is as before; or as where the wire fails, so that the bytes may wait behind it; or
+-- the bytes were carried to something.
+abbrev pub Starves : List ℕ → Route → Route → Type 0
+Starves bytes before after = (after ≡ before) ⊎ (Breaks bytes before after ⊎ ((carried : Carried) × Carries bytes carried before after))
+
+-- Memory ended at a stage, and then this is how copies go. What waits is as at the stage, or as where memory ends while a copy of
+-- its world is carried.
+abbrev pub IsLeftAt : Stage → Route → Type 0
+IsLeftAt at route =
+    (route ≡ at.route) ⊎ ((copy : ℕ) × (mail : MailCopy) × (copy_at at.world copy ≡ Some mail) × Starves mail.bytes at.route route)

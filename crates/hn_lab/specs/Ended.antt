@@ -5,17 +5,19 @@ use Rattle.hn_world.specs.declared.event.WorldFault.{WorldFault}
 use Rattle.hn_world.specs.declared.event.WorldFault.TheVariants as fault
 use Rattle.hn_lab.specs.declared.end.Stop.{Stop}
 use Rattle.hn_lab.specs.declared.end.Stop.TheVariants.{Refused, Cut}
+use Rattle.hn_lab.specs.Carrying.{IsLeftAt}
 use Rattle.hn_lab.specs.Process.{Process}
 use Rattle.hn_lab.specs.Stage.{Stage}
 use Rattle.hn_lab.specs.Tells.{TellsLines}
 
 -- A process is stopped at some stage. No line came up so far. It is the last stage of the play, but where memory ended:
--- what is left of the play then is not known.
+-- then no more is known of what is left of the play than how its copies go.
 pub record IsStopped (process : Process) (stop : Stop) (before after : Stage) : Type 0 where
   pub at : Stage
   pub stopped : process (Some stop) before at
   pub untold : at.text ≡ before.text
   pub is_last : stop ≢ Cut NoMemory → at ≡ after
+  pub wire : IsLeftAt at after.route
   pub unwritten : stop ≢ Cut Failed
 
 -- it is done with an answer, or stopped

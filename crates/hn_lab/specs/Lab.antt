@@ -10,6 +10,7 @@ use Rattle.hn_script.specs.Script.{IsScript, IsFirstFault}
 use Rattle.hn_world.specs.declared.parts.Parts.{Parts}
 use Rattle.hn_lab.specs.declared.end.End.{End}
 use Rattle.hn_lab.specs.declared.end.End.TheVariants.{Done, Refused, WireFailed}
+use Rattle.hn_lab.specs.Carrying.{IsLeftAt}
 use Rattle.hn_lab.specs.Laws.{IsTold}
 use Rattle.hn_lab.specs.Output.{IsPart, IsFrontOf, IsCutText}
 use Rattle.hn_lab.specs.Play.{begun, IsPlay, IsCut, IsCutPlay}
@@ -61,30 +62,32 @@ pub record IsBrokenPlay (first last : Route) (script : Script) (status : ℕ) (w
   pub route_is : last ≡ after.route
   pub written_is : IsCutText after.text written
 
--- a play that ran out of memory: a front of the text is written
-pub record IsStarvedPlay (first : Route) (script : Script) (status : ℕ) (world : Option Parts) (written : List ℕ) : Type 0 where
+-- a play that ran out of memory, from one route to another: a front of the text is written
+pub record IsStarvedPlay (first last : Route) (script : Script) (status : ℕ) (world : Option Parts) (written : List ℕ) : Type 0 where
   pub after : Stage
   pub play : IsCut NoMemory script.lines (begun first script.version) after
   pub status_is : status ≡ 6
   pub world_is : world ≡ None
+  pub route_is : IsLeftAt after last
   pub written_is : IsFrontOf written (bytes_of after.text)
 
 -- what `play` comes to
 abbrev pub Plays : Route → Route → Script → ℕ → Option Parts → List ℕ → Type 0
 Plays first last script status world written =
     IsWholePlay first last script status world written
-    ⊎ (IsBrokenPlay first last script status world written ⊎ IsStarvedPlay first script status world written)
+    ⊎ (IsBrokenPlay first last script status world written ⊎ IsStarvedPlay first last script status world written)
 
 -- what is written of a line, by the status: the whole line, a proper part of it, or a front
 abbrev pub IsLineWritten : List ℕ → ℕ → List ℕ → Type 0
 IsLineWritten line status written =
     ((status ≡ 2) × (written ≡ line)) ⊎ (((status ≡ 4) × IsPart written line) ⊎ ((status ≡ 6) × IsFrontOf written line))
 
--- bytes that are no script: the line of their first fault is written
-pub record IsNoPlay (bytes : List ℕ) (status : ℕ) (world : Option Parts) (written : List ℕ) : Type 0 where
+-- bytes that are no script: the line of their first fault is written, and no wire is used
+pub record IsNoPlay (first last : Route) (bytes : List ℕ) (status : ℕ) (world : Option Parts) (written : List ℕ) : Type 0 where
   pub fault : ScriptFault
   pub is_fault : IsFirstFault fault bytes
   pub world_is : world ≡ None
+  pub route_is : last ≡ first
   pub written_is : IsLineWritten (refused_line fault.line fault.code) status written
 
 -- bytes that are a script, and its play
@@ -93,15 +96,15 @@ pub record IsScriptPlay (first last : Route) (bytes : List ℕ) (status : ℕ) (
   pub is_script : IsScript script bytes
   pub plays : Plays first last script status world written
 
--- out of memory before anything is written
-abbrev pub IsUnread : ℕ → Option Parts → List ℕ → Type 0
-IsUnread status world written = (status ≡ 6) × (world ≡ None) × (written ≡ [])
+-- out of memory before anything is written, or a wire is used
+abbrev pub IsUnread : Route → Route → ℕ → Option Parts → List ℕ → Type 0
+IsUnread first last status world written = (status ≡ 6) × (world ≡ None) × (last ≡ first) × (written ≡ [])
 
 -- what `lab` makes of the bytes of its source
 abbrev pub IsLabOf : Route → Route → List ℕ → ℕ → Option Parts → List ℕ → Type 0
 IsLabOf first last bytes status world written =
-    IsNoPlay bytes status world written
-    ⊎ (IsScriptPlay first last bytes status world written ⊎ IsUnread status world written)
+    IsNoPlay first last bytes status world written
+    ⊎ (IsScriptPlay first last bytes status world written ⊎ IsUnread first last status world written)
 
 -- what excludes a status
 pub record StatusOfScript (route : Route) (bytes : List ℕ) (status : ℕ) : Type 0 where

@@ -5,6 +5,7 @@ use Rattle.hn_io.specs.declared.fault.IoFault.TheVariants.{Failed, NoMemory}
 use Rattle.hn_world.specs.declared.parts.Parts.{Parts}
 use Rattle.hn_lab.specs.declared.end.Stop.{Stop}
 use Rattle.hn_lab.specs.declared.end.Stop.TheVariants.{Cut}
+use Rattle.hn_lab.specs.Carrying.{IsLeftAt}
 use Rattle.hn_lab.specs.Output.{IsPart, AppendsFront}
 use Rattle.hn_lab.specs.Process.{Process}
 use Rattle.hn_lab.specs.Stage.{Stage}
@@ -27,14 +28,15 @@ Gets (Some (Cut Failed)) w text before after = IsCutThere w text before after
 Gets (Some (Cut NoMemory)) w text before after = AppendsFront before after (bytes_of text)
 Gets _ w text before after = Appends before after (bytes_of text)
 
--- A process ends so at some stage, and a sink got what came up. It is the last stage of the play, but where memory ended: what
--- is left of the play then is not known.
+-- A process ends so at some stage, and a sink got what came up. It is the last stage of the play, but where memory ended: then no
+-- more is known of what is left of the play than how its copies go.
 pub record EndsAt (process : Process) (stop : Option Stop) (before after : Stage) (held held_after : Option (List ℕ)) : Type 0 where
   pub at : Stage
   pub ended : process stop before at
   pub more : List Told
   pub text_is : at.text ≡ before.text ++ more
   pub is_last : stop ≢ Some (Cut NoMemory) → at ≡ record after { text = at.text }
+  pub wire : IsLeftAt at after.route
   pub gets : Gets stop at.world more held held_after
 
 -- by the answer of the call

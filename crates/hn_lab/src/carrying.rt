@@ -3,7 +3,7 @@
 ghost use Rattle.std.specs.Prelude.{◌≡◌, ◌≤◌, [], Err, length, IfOk, OnOk};
 ghost use Rattle.hn_io.specs.Faults.{IsCaused};
 ghost use Rattle.hn_io.specs.declared.fault.IoFault.{IoFault};
-ghost use Rattle.hn_lab.specs.Carrying.{Carries, Breaks};
+ghost use Rattle.hn_lab.specs.Carrying.{Carries, Breaks, Starves};
 ghost use Rattle.hn_lab.specs.Stage.{Ports as FromBase};
 
 use hn_base::{Bytes, NoMemory};
@@ -75,7 +75,7 @@ pub trait Carrier<W> {
     ///
     /// # Errors
     ///
-    /// The wire failed, or memory ended.
+    /// The wire failed, or memory ended; then the bytes may be sent, or sent and taken, but to no other port.
     fn carry(
         &self,
         alloc: Global,
@@ -87,6 +87,8 @@ pub trait Carrier<W> {
         ensures carries { IfOk result (λ carried. Carries bytes.now carried (route self.now outside.old)
             (route self.now outside.new)) }
         ensures broken { result ≡ Err IoFault.Failed → Breaks bytes.now (route self.now outside.old)
+            (route self.now outside.new) }
+        ensures starved { result ≡ Err IoFault.NoMemory → Starves bytes.now (route self.now outside.old)
             (route self.now outside.new) }
         ensures caused { IsCaused (result ≡ Err IoFault.Failed) (faults outside.old) (faults outside.new)
             (never_fails outside.old) (never_fails outside.new) };
@@ -192,6 +194,8 @@ fn over<W: Wire>(
     ensures carries { IfOk result (λ carried. Carries bytes.now carried (FromBase base (W.waiting wire.old))
         (FromBase base (W.waiting wire.new))) }
     ensures broken { result ≡ Err IoFault.Failed → Breaks bytes.now (FromBase base (W.waiting wire.old))
+        (FromBase base (W.waiting wire.new)) }
+    ensures starved { result ≡ Err IoFault.NoMemory → Starves bytes.now (FromBase base (W.waiting wire.old))
         (FromBase base (W.waiting wire.new)) }
     ensures caused { IsCaused (result ≡ Err IoFault.Failed) (W.faults wire.old) (W.faults wire.new)
         (W.never_fails wire.old) (W.never_fails wire.new) }

@@ -2,11 +2,11 @@
 
 ghost use Rattle.hn_lab.specs.Breaking.{WireFailsAtACopy};
 ghost use Rattle.hn_lab.specs.Laws.{AtMostOnePlay, AtMostOneCutPlay, CutTextsAreFronts, BrokenTextsAreFronts, MailDelivers, PiecesAppend, ResultsAreUnique};
-ghost use Rattle.hn_lab.specs.Resting.{LastingRunKeepsCalm, RestfulLinesKeepCalm, RunKeepsCalm};
+ghost use Rattle.hn_lab.specs.Resting.{LastingRunKeepsCalm, RestfulLinesKeepCalm, RunBringsCalm, RunKeepsCalm};
 
 use hn_addr::choice_is_unique;
 use hn_advert::advert_is_unique;
-use hn_audit::{lasting_goes_in_turns, rest_goes_in_turns};
+use hn_audit::{calm_comes_and_lasts, rest_goes_in_turns};
 use hn_deleg::usable_is_unique;
 use hn_link::{common_link_is_unique, elected_is_unique};
 use hn_router::router_has_one_advert;
@@ -79,8 +79,10 @@ pub fn pieces_append()
 {}
 
 /// Over a line `run` by mail, without loss, with steps of at most 22 s, a calm home stays calm: settled and quiet, with the same
-/// assignments. `lasting` and `lines` ask of the world at the beginning alone.
+/// assignments. `lasting` and `lines` ask of the world at the beginning alone. And over such a line of 20 s or more a settled and
+/// quiet home becomes calm, if its peers are linked and were heard less than 42 s before its end.
 pub fn run_keeps_calm()
+    ensures brings { RunBringsCalm }
     ensures way { RunKeepsCalm }
     ensures lasting { LastingRunKeepsCalm }
     ensures lines { RestfulLinesKeepCalm }
@@ -89,5 +91,5 @@ pub fn run_keeps_calm()
     names_differ();
     mail_delivers();
     rest_goes_in_turns();
-    lasting_goes_in_turns();
+    calm_comes_and_lasts();
 }

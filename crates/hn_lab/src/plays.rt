@@ -5,6 +5,7 @@ ghost use Rattle.hn_io.specs.Faults.{IsCaused};
 ghost use Rattle.hn_base.specs.declared.version.Version.{Version};
 ghost use Rattle.hn_script.specs.Laws.{IsLimited};
 ghost use Rattle.hn_script.specs.Line.{IsOfVersion};
+ghost use Rattle.hn_lab.specs.Carrying.{IsLeftAt};
 ghost use Rattle.hn_lab.specs.Output.{AppendsFront, IsCutText};
 ghost use Rattle.hn_lab.specs.Play.{IsPlay, IsCut, IsCutPlay};
 ghost use Rattle.hn_lab.specs.Stage.{Stage, stage_of};
@@ -43,6 +44,7 @@ pub(crate) fn play_lines<K: Sink, W, C: Carrier<W>>(
         × IsCutText after.text written × Appends (K.held out.old) (K.held out.new) written }
     ensures starved { result ≡ Err IoFault.NoMemory → (after : Stage)
         × IsCut IoFault.NoMemory lines.items (stage_of playing.old (C.route carrier.now outside.old) []) after
+        × IsLeftAt after (C.route carrier.now outside.new)
         × AppendsFront (K.held out.old) (K.held out.new) (bytes_of after.text) }
     ensures caused { IsCaused (result ≡ Err IoFault.Failed) (K.faults out.old) (K.faults out.new)
         (K.never_fails out.old) (K.never_fails out.new) }

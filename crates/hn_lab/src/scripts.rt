@@ -248,6 +248,7 @@ pub fn lab<S: Source, K: Sink, W: Wire>(
     ensures replayed { IfSome result.world IsReplayed }
     ensures statuses { Contains (DONE ∷ REFUSED ∷ SOURCE_FAILED ∷ SINK_FAILED ∷ WIRE_FAILED ∷ NO_MEMORY ∷ []) result.status }
     ensures unwritten { result.status ≡ SOURCE_FAILED → out.new ≡ out.old }
+    ensures unsent { result.status ≡ SOURCE_FAILED → wire.new ≡ wire.old }
     ensures source_caused { IsCaused (result.status ≡ SOURCE_FAILED) (S.faults src.old) (S.faults src.new)
         (S.never_fails src.old) (S.never_fails src.new) }
     ensures sink_caused { IsCaused (result.status ≡ SINK_FAILED) (K.faults out.old) (K.faults out.new)

@@ -1,5 +1,6 @@
 use Rattle.hn_base.proofs.Names.{List, Err, ℕ, refl, ap, subst}
 use Rattle.hn_lab.proofs.Names.{copy_at, Carries, Breaks, stage_of}
+use Rattle.hn_lab.specs.Carrying.{Starves}
 use Rattle.hn_lab.proofs.RunDeliveries.{delivered_copy, bytes_of_copy, short_copy, conveyed_ends, broken, delivery_starved}
 use Rattle.hn_lab.proofs.delivery.convey.Goals as goal
 
@@ -17,7 +18,7 @@ returns-in-Ok-clause-ends g c text =
     let bytes_are = bytes_of_copy c.in-Some.bytes.now (copy_at p.world copy) found.0 c.in-Some.ensures found.1 in
     let carries = subst (λ (b : List ℕ). Carries b c.in-Ok.carried w v) bytes_are c.in-Ok.ensures.carries in
     conveyed_ends copy found.0 c.in-Ok.carried c.come_to.result c.stopping.result p (stage_of c.args.playing.now v text) (stage_of c.come_to.new.playing v text) c.requires found.1 carries refl
-    c.stopping.ensures.same refl (c.come_to.ensures.ends v text found.0 found.1)
+    c.stopping.ensures.same refl refl (c.come_to.ensures.ends v text found.0 found.1)
 
 pub returns-in-Err-Failed-clause-ends : goal.returns-in-Err-Failed-clause-ends
 returns-in-Err-Failed-clause-ends g c text =
@@ -31,5 +32,10 @@ returns-in-Err-Failed-clause-ends g c text =
 
 pub returns-in-Err-NoMemory-clause-ends : goal.returns-in-Err-NoMemory-clause-ends
 returns-in-Err-NoMemory-clause-ends g c text =
-    delivery_starved c.args.copy (stage_of c.args.playing.now (g.C.Carrier.route c.args.carrier.now c.args.outside.now) text)
-    (stage_of c.args.playing.now (g.C.Carrier.route c.args.carrier.now c.carry.new.outside) text)
+    let w = g.C.Carrier.route c.args.carrier.now c.args.outside.now in
+    let v = g.C.Carrier.route c.args.carrier.now c.carry.new.outside in
+    let p = stage_of c.args.playing.now w text in
+    let found = delivered_copy p.world c.args.copy c.requires in
+    let bytes_are = bytes_of_copy c.in-Some.bytes.now (copy_at p.world c.args.copy) found.0 c.in-Some.ensures found.1 in
+    let starves = subst (λ (b : List ℕ). Starves b w v) bytes_are (c.in-Err-NoMemory.ensures.starved (ap Err c.in-Err-NoMemory.field-0-is)) in
+    delivery_starved c.args.copy found.0 p (stage_of c.args.playing.now v text) found.1 starves

@@ -11,7 +11,7 @@ returns-then-lost-clause-ends g c text =
     let p = stage_of c.args.playing.now w text in
     let a = stage_of c.event.new.self w text in
     subst (λ (lost : Bool). Ended (TreatmentEnds lost c.args.copy) c.stopping.result p a) (sym c.if-lost.true)
-    (event_ends (event.Drop c.args.copy) (TreatmentEnds true c.args.copy) c.event.result c.stopping.result p a c.stopping.ensures.same refl (λ stop at h. h) (c.event.ensures.ends w text))
+    (event_ends (event.Drop c.args.copy) (TreatmentEnds true c.args.copy) c.event.result c.stopping.result p a c.stopping.ensures.same refl refl (λ stop at h. h) (c.event.ensures.ends w text))
 
 pub returns-in_err-_notes-clause-ends : goal.returns-in_err-_notes-clause-ends
 returns-in_err-_notes-clause-ends g c text =

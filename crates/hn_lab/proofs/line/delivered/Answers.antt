@@ -1,7 +1,7 @@
 use Rattle.hn_base.proofs.Names.{rules, ◌≡◌, ◌∙◌, ℕ, List, [], Option, inl, refl, ap, subst, option_map}
 use Rattle.hn_lab.proofs.Names.{Name, NoMemory, CopyInfo, copy_at, Cut, DeliveryEnds, Delivers, OtherEnds, receiver, ThenProcess, stage_of, note_lines, TellsLines}
 use Rattle.hn_script.specs.declared.line.Line.TheVariants as line
-use Rattle.hn_lab.proofs.RunDeliveries.{receiver_is}
+use Rattle.hn_lab.proofs.RunDeliveries.{delivered_left, receiver_is}
 use Rattle.hn_lab.proofs.RunStops.{leaving_on, starved, stopped_within, lines_left}
 use Rattle.hn_lab.proofs.line.delivered.Goals as goal
 
@@ -18,7 +18,8 @@ returns-in_err-note_lines-clause-ends g c text =
     let p = stage_of c.args.playing.now (g.C.Carrier.route c.args.carrier.now c.args.outside.now) text in
     let a = stage_of c.deliver.new.playing (g.C.Carrier.route c.args.carrier.now c.deliver.new.outside) text in
     let ends = OtherEnds (line.Deliver c.args.copy) in
-    leaving_on ends (Cut NoMemory) c.from_residual-in_err-note_lines.result p a c.from_residual-in_err-note_lines.ensures.1 (starved ends p a ([], inl (inl refl)))
+    leaving_on ends (Cut NoMemory) c.from_residual-in_err-note_lines.result p a c.from_residual-in_err-note_lines.ensures.1 (starved ends p a ([], inl (inl refl))
+    (delivered_left c.args.copy c.in_ok-notes.notes p a (c.in_ok-notes.ensures.ends text)))
 
 pub returns-clause-ends : goal.returns-clause-ends
 returns-clause-ends g c text =

@@ -1,4 +1,4 @@
-use Rattle.hn_base.proofs.Names.{refl, sym, subst}
+use Rattle.hn_base.proofs.Names.{inl, refl, sym, subst}
 use Rattle.hn_lab.proofs.Names.{Line, Leaves, EndsLeaving, OtherEnds, stage_of}
 use Rattle.hn_lab.proofs.LineEnds.{act_cut, acts}
 use Rattle.hn_lab.proofs.RunAnswers.{leaves_so}
@@ -33,4 +33,4 @@ returns-in_default-clause-ends g c text =
     let a = stage_of c.act.new.playing w text in
     let ends = OtherEnds c.args.line in
     let act = acts c.args.line c.requires.other c.requires.no_report c.requires.no_run c.in_default.not-Seed c.in_default.not-Loss c.in_default.not-Deliver c.in_default.not-Flow in
-    leaves_so ends ends p p a (λ code h. h) c.act.result c.stopping.result c.stopping.ensures.same refl (act_cut c.args.line p act) (λ lines h. h) (c.act.ensures w text)
+    leaves_so ends ends p p a (λ code h. h) c.act.result c.stopping.result c.stopping.ensures.same refl (act_cut c.args.line p act) (inl refl) (λ lines h. h) (c.act.ensures w text)

@@ -11,7 +11,7 @@ returns-in-Some-clause-ends g c text =
     let ends = ReportEnds c.in-Some.asked in
     let is : report_of c.args.line ≡ Some c.in-Some.asked = sym c.report_of.ensures ∙ c.in-Some.is in
     subst (λ (o : Option Report). EndsLeaving (EndsAs c.args.line o) c.stopping.result p p) (sym is)
-    (leaves_so ends ends p p p (λ code h. h) c.reported.result c.stopping.result c.stopping.ensures.same refl (inl refl) (λ lines h. h)
+    (leaves_so ends ends p p p (λ code h. h) c.reported.result c.stopping.result c.stopping.ensures.same refl (inl refl) (inl refl) (λ lines h. h)
     (report_answered c.in-Some.asked c.reported.result p c.reported.ensures.told c.reported.ensures.refused))
 
 pub returns-in-None-clause-ends : goal.returns-in-None-clause-ends

@@ -8,7 +8,7 @@ pub returns-in_err-names-clause-ends : goal.returns-in_err-names-clause-ends
 returns-in_err-names-clause-ends g c route text =
     let p = stage_of c.args.playing.now route text in
     writing_on Ticks (Cut NoMemory) c.from_residual.result p _ _ _ c.from_residual.ensures.1
-    (starves Ticks p _ _ (each_starved TickEnds (λ name q. inl ([], refl)) (running_names p.world) p))
+    (starves Ticks p _ _ (each_starved TickEnds (λ name q. inl ([], refl)) (running_names p.world) p) refl)
 
 pub returns-clause-ends : goal.returns-clause-ends
 returns-clause-ends g c route text =

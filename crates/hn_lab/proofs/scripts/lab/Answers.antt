@@ -37,7 +37,7 @@ pub returns-in-Err-NoMemory-clause-lab : goal.returns-in-Err-NoMemory-clause-lab
 returns-in-Err-NoMemory-clause-lab g c _ =
     let w = g.W.Wire.waiting c.args.wire.now in
     starved_run (route_of c.args.base w) (route_of c.args.base w) c.without_world-in-Err-NoMemory.result.status c.without_world-in-Err-NoMemory.result.world _ _ (g.S.Source.left c.args.src.now)
-    c.without_world-in-Err-NoMemory.ensures.status c.without_world-in-Err-NoMemory.ensures.no_world (appends_nothing (g.K.Sink.held c.args.out.now))
+    c.without_world-in-Err-NoMemory.ensures.status c.without_world-in-Err-NoMemory.ensures.no_world refl (appends_nothing (g.K.Sink.held c.args.out.now))
 
 pub returns-in-Err-NoMemory-clause-transcript : goal.returns-in-Err-NoMemory-clause-transcript
 returns-in-Err-NoMemory-clause-transcript g c none some =

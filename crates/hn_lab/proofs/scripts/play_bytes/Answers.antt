@@ -31,7 +31,7 @@ returns-in-Err-Script-clause-statuses g c = among_more c.refuse.result.status c.
 
 pub returns-in-Err-NoMemory-clause-lab : goal.returns-in-Err-NoMemory-clause-lab
 returns-in-Err-NoMemory-clause-lab g c =
-    ([], inr (inr (c.without_world.ensures.status, c.without_world.ensures.no_world, refl)), appends_nothing (g.K.Sink.held c.args.out.now))
+    ([], inr (inr (c.without_world.ensures.status, c.without_world.ensures.no_world, refl, refl)), appends_nothing (g.K.Sink.held c.args.out.now))
 
 pub returns-in-Err-NoMemory-clause-only : goal.returns-in-Err-NoMemory-clause-only
 returns-in-Err-NoMemory-clause-only g c =

@@ -13,13 +13,13 @@ returns-in_err-stopping-clause-ends g c route text =
     let ev = event.Tick c.args.name in
     writing_on (TickEnds c.args.name) why c.from_residual.result p a _ _ c.from_residual.ensures.1
     (first_stops (EventEnds ev) (Turns c.args.name) why p a _ _ (still_stopped (EventEnds ev) why p a _
-    (event_ends ev (EventEnds ev) c.event.result (Err why) p a c.in_err-stopping.ensures.same refl (λ stop at h. h) (c.event.ensures.ends route text))))
+    (event_ends ev (EventEnds ev) c.event.result (Err why) p a c.in_err-stopping.ensures.same refl refl (λ stop at h. h) (c.event.ensures.ends route text))))
 
 pub returns-in_err-endpoints-clause-ends : goal.returns-in_err-endpoints-clause-ends
 returns-in_err-endpoints-clause-ends g c route text =
     let p = stage_of c.args.playing.now route text in
     writing_on (TickEnds c.args.name) (Cut NoMemory) c.from_residual-in_err-endpoints.result p _ _ _ c.from_residual-in_err-endpoints.ensures.1
-    (starves (TickEnds c.args.name) p _ _ (inl ([], refl)))
+    (starves (TickEnds c.args.name) p _ _ (inl ([], refl)) refl)
 
 pub returns-clause-ends : goal.returns-clause-ends
 returns-clause-ends g c route text =
@@ -28,7 +28,7 @@ returns-clause-ends g c route text =
     let a = stage_of c.turns.new.playing route text in
     let name = c.args.name in
     let ev = event.Tick name in
-    let ticked = event_ends ev (EventEnds ev) c.event.result (Ok c.in_ok-stopping.field-0) p m c.in_ok-stopping.ensures.same refl (λ stop at h. h) (c.event.ensures.ends route text) in
+    let ticked = event_ends ev (EventEnds ev) c.event.result (Ok c.in_ok-stopping.field-0) p m c.in_ok-stopping.ensures.same refl refl (λ stop at h. h) (c.event.ensures.ends route text) in
     let first = still_done (EventEnds ev) p m (g.K.Sink.held c.args.out.now) refl ticked in
     then_writes (EventEnds (event.Tick name)) (Turns name) c.turns.result p m a _ _ _ first
     (writing_as (EachProcess (TurnEnds name) c.deref.result.now) (Turns name) c.turns.result (record m { text = first.at.text }) (record a { text = first.at.text }) _ _

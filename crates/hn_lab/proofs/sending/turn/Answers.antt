@@ -7,7 +7,7 @@ use Rattle.hn_lab.proofs.sending.turn.Goals as goal
 pub returns-in_err-lines-clause-ends : goal.returns-in_err-lines-clause-ends
 returns-in_err-lines-clause-ends g c route text =
     writing_on (TurnEnds c.args.name.now c.args.endpoint) (Cut NoMemory) c.from_residual.result _ _ _ _ c.from_residual.ensures.1
-    (turn_starves c.args.name.now c.args.endpoint (stage_of c.args.playing.now route text) _ _)
+    (turn_starves c.args.name.now c.args.endpoint (stage_of c.args.playing.now route text) _ _ refl)
 
 pub returns-in_err-write_lines-clause-ends : goal.returns-in_err-write_lines-clause-ends
 returns-in_err-write_lines-clause-ends g c route text =

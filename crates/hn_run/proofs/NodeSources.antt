@@ -30,7 +30,15 @@ long_makes call status served before after text whole read long front (inl is) =
   text_is = is.text_is;
 })
 long_makes call status served before after text whole read long front (inr (inl is)) = let short = is.is_served.file.small in absurd (omega arith)
-long_makes call status served before after text whole read long front (inr (inr is)) = inr (inr is)
+long_makes call status served before after text whole read long front (inr (inr is)) = inr (inr (record {
+  status_is = is.status_is;
+  unserved = is.unserved;
+  text_is = is.text_is;
+  wire = elim is.wire [
+    | inl unsent ↦ inl unsent
+    | inr starves ↦ let short = starves.file.small in absurd (omega arith)
+  ];
+}))
 
 long_status : (call : PlainCall) (status : ℕ) (whole read : List ℕ) → 2 ^ 24 < length read → length read ≤ length whole → StatusOfNode call read status → StatusOfNode call whole status
 long_status call status whole read long front only = record {
@@ -75,7 +83,8 @@ node_read call left rest read status served before after a b consumed whole made
     (some_source (NodeHolds call status served before after a b) (holds_longer call status served before after a b) left rest read consumed whole (made, only))
 
 pub node_unread : (call : PlainCall) (left : Option (List ℕ)) (status : ℕ) (served : Option Served) (before after : Outside) (held : Option (List ℕ))
-    → status ≡ 6 → served ≡ None → IsNodeRun call left status served before after held held
-node_unread call left status served before after held six none =
+    → status ≡ 6 → served ≡ None → after.waiting ≡ before.waiting → IsNodeRun call left status served before after held held
+node_unread call left status served before after held six none unsent =
     node_from call left status served before after held held
-    (any_source (NodeHolds call status served before after held held) (λ bytes. (unserved call bytes status served before after held six none, nothing_excluded call bytes status six)) left)
+    (any_source (NodeHolds call status served before after held held)
+    (λ bytes. (unserved call bytes status served before after held six none (inl unsent), nothing_excluded call bytes status six)) left)

@@ -3,12 +3,12 @@ use Rattle.hn_base.proofs.Names.{◌≡◌, ◌≢◌, ◌∙◌, ◌⊎◌, ◌
 use Rattle.hn_base.proofs.Names.{arith, lit<, OnOk, OnErr, All, Appends, AllZip, All-nil, All-cons, Took, Begins}
 use Rattle.hn_run.proofs.Names.{IfSome, Contains, NodeId, One, IoFault, Failed, NoMemory, AppendsPart, Served, IsNumberText, Datagram, written_status, ArePeerPorts, IsFormOf, Node, LineHolds}
 use Rattle.hn_run.proofs.Names.{PlainCall, plain_call, Outside, node_line, line_of, MakesNode, StatusOfNode, NodeCall}
-use Rattle.hn_node.specs.Turns.{Serving, Turns, CutTurns, handed_in}
+use Rattle.hn_node.specs.Turns.{Serving, Turns, CutTurns, IsBounded, handed_in}
 use Rattle.hn_node.specs.declared.served.ServeEnd.{ServeEnd}
 use Rattle.hn_node.specs.declared.served.ServeEnd.TheVariants as ending
 use Rattle.hn_world.specs.Within.{IsWithinLimits}
 use Rattle.hn_run.specs.Form.{IsNodeCall}
-use Rattle.hn_run.specs.Node.{IsCall, site_of, IsStatusOf, EndsServing}
+use Rattle.hn_run.specs.Node.{IsCall, site_of, IsStatusOf, EndsServing, StarvesServing}
 use Rattle.hn_run.proofs.Streams.{Appends-none}
 
 -- ---- a line that is written
@@ -144,8 +144,10 @@ ended ending.WireFault = inr refl
 -- ---- out of memory before there was a text
 
 pub unserved : (call : PlainCall) (bytes : List ℕ) (status : ℕ) (served : Option Served) (before after : Outside) (held : Option (List ℕ)) → status ≡ 6 → served ≡ None
+    → (after.waiting ≡ before.waiting) ⊎ StarvesServing call bytes before after
     → (text : List ℕ) × MakesNode call bytes status served before after text × ((written : List ℕ) × LineHolds status text written × Appends held held written)
-unserved call bytes status served before after held six none = ([], inr (inr (six, none, refl)), ([], inr (inl (six, ([], refl))), Appends-none held))
+unserved call bytes status served before after held six none wire =
+    ([], inr (inr (record { status_is = six; unserved = none; text_is = refl; wire = wire })), ([], inr (inl (six, ([], refl))), Appends-none held))
 
 pub nothing_excluded : (call : PlainCall) (bytes : List ℕ) (status : ℕ) → status ≡ 6 → StatusOfNode call bytes status
 nothing_excluded call bytes status six = record {
@@ -181,10 +183,10 @@ told_served call status s first last readings rest a b turns cut told untold = e
 ]
 
 -- what is told is within its limits
-pub within_told : (status : ℕ) (told : Option Served) (s : Served) → IsWithinLimits One s.router → ((status ≡ 6) × (told ≡ None)) ⊎ ((status ≢ 6) × (told ≡ Some s))
-    → IfSome told (λ (t : Served). IsWithinLimits One t.router)
-within_told status told s within (inl none) = rw none.1 tt
-within_told status told s within (inr some) = rw some.1 within
+pub within_told : (status : ℕ) (told : Option Served) (s : Served) → IsWithinLimits One s.router → All IsBounded s.log → ((status ≡ 6) × (told ≡ None)) ⊎ ((status ≢ 6) × (told ≡ Some s))
+    → IfSome told (λ (t : Served). IsWithinLimits One t.router × All IsBounded t.log)
+within_told status told s within bounded (inl none) = rw none.1 tt
+within_told status told s within bounded (inr some) = rw some.1 (within, bounded)
 
 -- its words begin those of the seed
 pub begins_seed : (stream : ℕ → ℕ) (after : Option (ℕ → ℕ)) (words : List ℕ) → Took (Some stream) words after → Begins words stream

@@ -11,7 +11,7 @@ use Rattle.hn_base.specs.declared.ids.NodeId.{NodeId}
 use Rattle.hn_io.specs.Pcg.{pcg_word}
 use Rattle.hn_lab.specs.Output.{IsPart, IsFrontOf}
 use Rattle.hn_lab.specs.Reports.{refused_line}
-use Rattle.hn_node.specs.Turns.{PlainSite, Serving, serving, Turns, CutTurns, handed_in, arrivals_in, words_of}
+use Rattle.hn_node.specs.Turns.{PlainSite, Serving, serving, Turns, CutTurns, StarvesTurns, handed_in, arrivals_in, words_of}
 use Rattle.hn_node.specs.declared.served.ServeEnd.{ServeEnd}
 use Rattle.hn_node.specs.declared.served.ServeEnd.TheVariants as ending
 use Rattle.hn_node.specs.declared.served.Served.{Served}
@@ -156,14 +156,29 @@ pub record IsServedNode (call : PlainCall) (bytes : List ℕ) (status : ℕ) (se
   pub is_served : IsServed call bytes status s before after text
   pub served_is : ((status ≡ 6) × (served ≡ None)) ⊎ ((status ≢ 6) × (served ≡ Some s))
 
--- out of memory before there was a text
-abbrev pub IsUnservedNode : ℕ → Option Served → List ℕ → Type 0
-IsUnservedNode status served text = (status ≡ 6) × (served ≡ None) × (text ≡ [])
+-- memory ended in the turns of the router that a file sets up: what was sent and taken is what turns send and take
+pub record StarvesServing (call : PlainCall) (bytes : List ℕ) (before after : Outside) : Type 0 where
+  pub lines : List (ℕ × NodeLine)
+  pub file : IsNodeFile lines bytes
+  pub now : ℕ
+  pub readings : Option (List ℕ)
+  pub reads : ReadsClock before.readings now readings
+  pub words : List ℕ
+  pub router : State
+  pub set_up : IsSetUp call.id lines now words router
+  pub starves : StarvesTurns (site_of call) call.turns (serving router before.waiting) after.waiting readings after.readings
+
+-- out of memory before there was a text: nothing is sent, or memory ended in the turns
+pub record IsUnservedNode (call : PlainCall) (bytes : List ℕ) (status : ℕ) (served : Option Served) (before after : Outside) (text : List ℕ) : Type 0 where
+  pub status_is : status ≡ 6
+  pub unserved : served ≡ None
+  pub text_is : text ≡ []
+  pub wire : (after.waiting ≡ before.waiting) ⊎ StarvesServing call bytes before after
 
 abbrev pub MakesNode : PlainCall → List ℕ → ℕ → Option Served → Outside → Outside → List ℕ → Type 0
 MakesNode call bytes status served before after text =
     IsRefusedNode call bytes status served before after text
-    ⊎ (IsServedNode call bytes status served before after text ⊎ IsUnservedNode status served text)
+    ⊎ (IsServedNode call bytes status served before after text ⊎ IsUnservedNode call bytes status served before after text)
 
 -- what a sink holds of a line, by the status: a proper front where the sink failed, a front where memory ended, else all
 abbrev pub LineHolds : ℕ → List ℕ → List ℕ → Type 0

@@ -60,7 +60,7 @@ pub record LeavesOnWire (base : ℕ) (waiting : List Datagram) (left : Option (L
 -- transcript of the script.
 pub record IsSoakRun (n seed status : ℕ) (world : Option Parts) (before after : Option (List ℕ)) : Type 0 where
   pub written : List ℕ
-  pub comes : IsScriptPlay Mail Mail (soak_text n seed) status world written ⊎ IsUnread status world written
+  pub comes : IsScriptPlay Mail Mail (soak_text n seed) status world written ⊎ IsUnread Mail Mail status world written
   pub of_script : (script : Script) → IsScript script (soak_text n seed) → IsOfTranscript script status world written
   pub only : StatusOfScript Mail (soak_text n seed) status
   pub appends : Appends before after written

@@ -1,10 +1,11 @@
 //! `node`: a router that is set up by its file, and served.
 
-ghost use Rattle.std.specs.Prelude.{◌≡◌, ◌≢◌, ◌≤◌, ◌^◌, ◌⊎◌, ◌+◌, ℕ, List, [], ◌∷◌, Err, OnOk, OnErr, IfOk, IfSome, Contains, None, Some, length, string_bytes};
+ghost use Rattle.std.specs.Prelude.{◌≡◌, ◌≢◌, ◌≤◌, ◌^◌, ◌⊎◌, ◌+◌, ℕ, List, [], ◌∷◌, All, Err, OnOk, OnErr, IfOk, IfSome, Contains, None, Some, length, string_bytes};
 ghost use Rattle.std.specs.Io.KnownBytes.{Appends, Consumes};
 ghost use Rattle.hn_io.specs.Faults.{IsCaused};
 ghost use Rattle.hn_lab.specs.Output.{AppendsPart};
 ghost use Rattle.hn_lab.specs.Reports.{refused_line};
+ghost use Rattle.hn_node.specs.Turns.{IsBounded};
 ghost use Rattle.hn_node.specs.declared.served.ServeEnd.{ServeEnd};
 ghost use Rattle.hn_script.specs.NodeFile.{IsNodeFile};
 ghost use Rattle.hn_base.specs.declared.version.Version.TheVariants.{One};
@@ -111,7 +112,7 @@ fn serve_lines<K: Sink, W: Wire, C: Clock>(
         × ((written : List ℕ) × LineHolds result.status text written × Appends (K.held out.old) (K.held out.new) written) }
     ensures overfull { (now number : ℕ) → IsOverfull call.now.id lines.now now number → (result.status ≢ DONE) × (result.status ≢ WIRE_FAILED) }
     ensures done { ((now number : ℕ) → ¬ IsOverfull call.now.id lines.now now number) → result.status ≢ REFUSED }
-    ensures within { IfSome result.served (λ s. IsWithinLimits One s.router) }
+    ensures within { IfSome result.served (λ s. IsWithinLimits One s.router × All IsBounded s.log) }
     ensures no_world { result.world ≡ None }
     ensures nothing { result.status ≡ NO_MEMORY → result.served ≡ None }
     ensures statuses { Contains (DONE ∷ REFUSED ∷ SINK_FAILED ∷ WIRE_FAILED ∷ NO_MEMORY ∷ []) result.status }
@@ -156,7 +157,7 @@ fn node_of<K: Sink, W: Wire, C: Clock>(
         (record { waiting = W.waiting wire.old; readings = C.readings clock.old }) (record { waiting = W.waiting wire.new; readings = C.readings clock.new }) text
         × ((written : List ℕ) × LineHolds result.status text written × Appends (K.held out.old) (K.held out.new) written) }
     ensures only { StatusOfNode (plain_call call.now) bytes.now result.status }
-    ensures within { IfSome result.served (λ s. IsWithinLimits One s.router) }
+    ensures within { IfSome result.served (λ s. IsWithinLimits One s.router × All IsBounded s.log) }
     ensures no_world { result.world ≡ None }
     ensures nothing { result.status ≡ NO_MEMORY → result.served ≡ None }
     ensures statuses { Contains (DONE ∷ REFUSED ∷ SINK_FAILED ∷ WIRE_FAILED ∷ NO_MEMORY ∷ []) result.status }
@@ -187,11 +188,11 @@ pub fn node<S: Source, K: Sink, W: Wire, C: Clock>(
     ensures node { result.status ≢ SOURCE_FAILED → IsNodeRun (plain_call call.now) (S.left src.old) result.status result.served
         (record { waiting = W.waiting wire.old; readings = C.readings clock.old }) (record { waiting = W.waiting wire.new; readings = C.readings clock.new })
         (K.held out.old) (K.held out.new) }
-    ensures within { IfSome result.served (λ s. IsWithinLimits One s.router) }
+    ensures within { IfSome result.served (λ s. IsWithinLimits One s.router × All IsBounded s.log) }
     ensures no_world { result.world ≡ None }
     ensures nothing { (result.status ≡ SOURCE_FAILED) ⊎ (result.status ≡ NO_MEMORY) → result.served ≡ None }
     ensures statuses { Contains (DONE ∷ REFUSED ∷ SOURCE_FAILED ∷ SINK_FAILED ∷ WIRE_FAILED ∷ NO_MEMORY ∷ []) result.status }
-    ensures unstarted { result.status ≡ SOURCE_FAILED → (out.new ≡ out.old) × (clock.new ≡ clock.old) }
+    ensures unstarted { result.status ≡ SOURCE_FAILED → (out.new ≡ out.old) × (wire.new ≡ wire.old) × (clock.new ≡ clock.old) }
     ensures source_caused { IsCaused (result.status ≡ SOURCE_FAILED) (S.faults src.old) (S.faults src.new)
         (S.never_fails src.old) (S.never_fails src.new) }
     ensures sink_caused { IsCaused (result.status ≡ SINK_FAILED) (K.faults out.old) (K.faults out.new)

@@ -3,12 +3,13 @@ ghost use Rattle.hn_world.specs.Replay.{IsReplayed, Always, Throughout};
 ghost use Rattle.hn_world.specs.Authentic.{AuthenticUnlessInjected};
 ghost use Rattle.hn_world.specs.Leaves.{EqualHashesAgree};
 ghost use Rattle.hn_world.specs.Within.{AreWithinLimits};
+ghost use Rattle.hn_audit.specs.Lasting.{CalmStaysInTurns};
 ghost use Rattle.hn_audit.specs.Laws.{SettledElectAlike};
 ghost use Rattle.hn_audit.specs.Staying.{QuietStays};
 ghost use Rattle.hn_plain.specs.Plain.{SettledAreSound};
 ghost use Rattle.hn_told.specs.Told.{HostsAreToldApart};
 
-use hn_audit::{quiet_homes_always_stay, settled_elect_alike};
+use hn_audit::{calm_homes_always_stay, quiet_homes_always_stay, settled_elect_alike};
 use hn_lab::Played;
 use hn_node::Served;
 use hn_plain::plainly_sound;
@@ -58,6 +59,7 @@ impl Outcome {
         ensures elected { IfSome result.world (Always SettledElectAlike) }
         ensures told { IfSome result.world (Always HostsAreToldApart) }
         ensures stays { IfSome result.world (Throughout QuietStays) }
+        ensures turns { IfSome result.world (Always CalmStaysInTurns) }
         ensures within_limits { IfSome result.world (Always AreWithinLimits) }
         ensures authentic { IfSome result.world (Always AuthenticUnlessInjected) }
     {
@@ -66,6 +68,7 @@ impl Outcome {
         settled_elect_alike();
         hosts_are_told_apart();
         quiet_homes_always_stay();
+        calm_homes_always_stay();
         always_within_limits();
         always_authentic();
         Outcome {

@@ -1,4 +1,4 @@
-ghost use Rattle.std.specs.Prelude.{◌≡◌, ◌≢◌, ◌↔◌, ◌+◌, ◌^◌, ◌≤◌, ◌⊎◌, ℕ, List, [], ◌∷◌, None, Some, map, length, Contains, IfSome, string_bytes};
+ghost use Rattle.std.specs.Prelude.{◌≡◌, ◌≢◌, ◌↔◌, ◌+◌, ◌^◌, ◌≤◌, ◌⊎◌, ℕ, List, [], ◌∷◌, All, None, Some, map, length, Contains, IfSome, string_bytes};
 ghost use Rattle.std.specs.Io.KnownBytes.{Consumes};
 ghost use Rattle.hn_io.specs.Faults.{IsCaused};
 ghost use Rattle.hn_world.specs.Replay.{IsReplayed, Always, Throughout};
@@ -6,14 +6,16 @@ ghost use Rattle.hn_world.specs.Authentic.{AuthenticUnlessInjected};
 ghost use Rattle.hn_world.specs.Leaves.{EqualHashesAgree};
 ghost use Rattle.hn_base.specs.declared.version.Version.TheVariants.{One};
 ghost use Rattle.hn_world.specs.Within.{IsWithinLimits, AreWithinLimits};
+ghost use Rattle.hn_audit.specs.Lasting.{CalmStaysInTurns};
 ghost use Rattle.hn_audit.specs.Laws.{SettledElectAlike};
 ghost use Rattle.hn_audit.specs.Staying.{QuietStays};
 ghost use Rattle.hn_plain.specs.Plain.{SettledAreSound};
 ghost use Rattle.hn_told.specs.Told.{HostsAreToldApart};
 ghost use Rattle.hn_wire.specs.declared.datagram.Datagram.{Datagram};
+ghost use Rattle.hn_node.specs.Turns.{IsBounded};
 ghost use Rattle.hn_lab.specs.Lab.{IsLabRun};
 ghost use Rattle.hn_lab.specs.Stage.{Mail, Ports};
-ghost use Rattle.hn_lab.specs.Transcripts.{IsLabTranscript};
+ghost use Rattle.hn_lab.specs.Transcripts.{IsLabTranscript, TranscriptIsUnique};
 ghost use Rattle.hn_run.specs.Form.{IsFormOf, AsksNothing, LeavesUnused, statuses_of};
 ghost use Rattle.hn_run.specs.Outcome.{IsDecodeRun, IsWatchRun, IsSoakRun, LeavesOnWire};
 ghost use Rattle.hn_run.specs.Node.{IsNodeRun, plain_call};
@@ -28,7 +30,7 @@ use crate::status::{BAD_USAGE, DONE, NO_MEMORY, REFUSED, SINK_FAILED, SOURCE_FAI
 use crate::watch::run_watch;
 use crate::words::Form;
 use hn_io::{IoFault, Sink, Source};
-use hn_lab::{lab, read_all, wire_fails_at_a_copy};
+use hn_lab::{lab, read_all, transcript_exists, wire_fails_at_a_copy};
 use hn_wire::{Clock, Wire};
 use std::alloc::Global;
 
@@ -98,8 +100,10 @@ pub fn run<S: Source, K: Sink, W: Wire, C: Clock>(
 
     // What each form comes to. After status 3 there is no more to say; it is said of the bytes that were read, which are
     // all that the source has, where it tells them. By mail, with `lab` and `soak`, a script has exactly one transcript: it
-    // cannot be that it has none, and a front of it is written, with status 0 or 2 the whole. With status 5 of `udp` the wire
-    // has what waited right before some copy, or that and the copy.
+    // cannot be that it has none, any two are equal (`only`), and a front of it is written, with status 0 or 2 the whole. With
+    // status 5 of `udp` the wire has what waited right before some copy, or that and the copy. With status 6 of `udp` and `node`
+    // what waits is what the play or the turns could have left.
+    ensures only { TranscriptIsUnique }
     ensures lab { IsFormOf Form.Lab (map string_bytes words.now) → result.status ≢ SOURCE_FAILED
         → IsLabTranscript Mail (S.left src.old) result.status result.world (K.held out.old) (K.held out.new) }
     ensures udp { (base : ℕ) → IsFormOf (Form.Udp base) (map string_bytes words.now) → result.status ≢ SOURCE_FAILED
@@ -130,26 +134,30 @@ pub fn run<S: Source, K: Sink, W: Wire, C: Clock>(
     ensures elected { IfSome result.world (Always SettledElectAlike) }
     ensures told { IfSome result.world (Always HostsAreToldApart) }
 
-    // Over time that passes and ticks that nothing disturbs, a settled and quiet router stays so, with the same assignments.
+    // Over time that passes, ticks that nothing disturbs, and deliveries of what its own routers say, a settled and quiet router
+    // stays so, with the same assignments. A calm home stays so from each moment of that past on, while its routers tick in turns
+    // without loss, until a lifetime ends that it sees, or its node data are to be published again.
     ensures stays { IfSome result.world (Throughout QuietStays) }
+    ensures turns { IfSome result.world (Always CalmStaysInTurns) }
 
     // At each moment of its past tables, lists and datagrams are within the limits of its version; and until something is
     // injected, what routers hold of other nodes was published, or two texts that were published collide.
     ensures within_limits { IfSome result.world (Always AreWithinLimits) }
     ensures authentic { IfSome result.world (Always AuthenticUnlessInjected) }
 
-    // A router that was served is within the limits of version 1.
-    ensures served_within { IfSome result.served (λ s. IsWithinLimits One s.router) }
+    // A router that was served is within the limits of version 1, and each datagram that it took or sent fits one.
+    ensures served_within { IfSome result.served (λ s. IsWithinLimits One s.router × All IsBounded s.log) }
 
-    // Where each status comes from. After 3 nothing was written, and no clock was read. Reading ends after 2^24 + 1 bytes.
+    // Where each status comes from. After 3 nothing was written or sent, and no clock was read. Reading ends after 2^24 + 1 bytes.
     ensures statuses { (form : Form) → IsFormOf form (map string_bytes words.now) → Contains (statuses_of form) result.status }
     ensures nothing { (result.status ≡ BAD_USAGE) ⊎ ((result.status ≡ SOURCE_FAILED) ⊎ (result.status ≡ NO_MEMORY)) → (result.world ≡ None) × (result.served ≡ None) }
     ensures source { IsCaused (result.status ≡ SOURCE_FAILED) (S.faults src.old) (S.faults src.new) (S.never_fails src.old) (S.never_fails src.new) }
     ensures sink { IsCaused (result.status ≡ SINK_FAILED) (K.faults out.old) (K.faults out.new) (K.never_fails out.old) (K.never_fails out.new) }
     ensures wire { IsCaused (result.status ≡ WIRE_FAILED) (W.faults wire.old) (W.faults wire.new) (W.never_fails wire.old) (W.never_fails wire.new) }
-    ensures unstarted { result.status ≡ SOURCE_FAILED → (out.new ≡ out.old) × (clock.new ≡ clock.old) }
+    ensures unstarted { result.status ≡ SOURCE_FAILED → (out.new ≡ out.old) × (wire.new ≡ wire.old) × (clock.new ≡ clock.old) }
     ensures bounded { (read : List ℕ) × (length read ≤ 2 ^ 24 + 1) × Consumes (S.left src.old) (S.left src.new) read }
 {
+    transcript_exists();
     wire_fails_at_a_copy();
     match Form::of(words) {
         Some(Form::Lab) => Outcome::of_play(lab(alloc, src, out, wire, None)),

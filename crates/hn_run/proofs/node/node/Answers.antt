@@ -1,4 +1,4 @@
-use Rattle.hn_base.proofs.Names.{[], ◌∷◌}
+use Rattle.hn_base.proofs.Names.{[], ◌∷◌, refl}
 use Rattle.hn_run.proofs.NodeSources.{node_read, node_unread}
 use Rattle.hn_run.proofs.Sources.{Contains-more}
 use Rattle.hn_run.proofs.node.node.Goals as goal
@@ -11,4 +11,4 @@ pub returns-in-Ok-clause-statuses : goal.returns-in-Ok-clause-statuses
 returns-in-Ok-clause-statuses g c = Contains-more (0 ∷ 2 ∷ []) (4 ∷ 5 ∷ 6 ∷ []) 3 c.node_of.result.status c.node_of.ensures.statuses
 
 pub returns-in-Err-NoMemory-clause-node : goal.returns-in-Err-NoMemory-clause-node
-returns-in-Err-NoMemory-clause-node g c _ = node_unread _ _ _ _ _ _ _ c.of-in-Err-NoMemory.ensures.status c.of-in-Err-NoMemory.ensures.not_served
+returns-in-Err-NoMemory-clause-node g c _ = node_unread _ _ _ _ _ _ _ c.of-in-Err-NoMemory.ensures.status c.of-in-Err-NoMemory.ensures.not_served refl

@@ -1,4 +1,4 @@
-use Rattle.hn_base.proofs.Names.{◌∙◌, ℕ, List, Err, sym, ap, subst}
+use Rattle.hn_base.proofs.Names.{◌∙◌, ℕ, List, Err, inl, refl, sym, ap, subst}
 use Rattle.hn_run.proofs.Names.{NodeLine, IsOverfull}
 use Rattle.hn_run.proofs.Nodes.{not_done, unserved}
 use Rattle.hn_run.proofs.node.node_of.Goals as goal
@@ -27,4 +27,4 @@ returns-in-Err-Script-clause-only g c =
     }
 
 pub returns-in-Err-NoMemory-clause-node : goal.returns-in-Err-NoMemory-clause-node
-returns-in-Err-NoMemory-clause-node g c = unserved _ _ _ _ _ _ _ c.of.ensures.status c.of.ensures.not_served
+returns-in-Err-NoMemory-clause-node g c = unserved _ _ _ _ _ _ _ c.of.ensures.status c.of.ensures.not_served (inl refl)

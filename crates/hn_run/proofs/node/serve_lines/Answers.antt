@@ -40,13 +40,25 @@ returns-in-Err-Overfull-clause-statuses g c =
     Contains-more [] (2 ∷ 4 ∷ 5 ∷ 6 ∷ []) 0 status (Contains-more (2 ∷ 4 ∷ []) (6 ∷ []) 5 status c.refuse.ensures.statuses)
 
 pub returns-in-Err-NoMemory-clause-node : goal.returns-in-Err-NoMemory-clause-node
-returns-in-Err-NoMemory-clause-node g c bytes file = unserved _ _ _ _ _ _ _ c.of.ensures.status c.of.ensures.not_served
+returns-in-Err-NoMemory-clause-node g c bytes file = unserved _ _ _ _ _ _ _ c.of.ensures.status c.of.ensures.not_served (inl refl)
 
 pub returns-in-Err-NoMemory-clause-overfull : goal.returns-in-Err-NoMemory-clause-overfull
 returns-in-Err-NoMemory-clause-overfull g c now number full = starved c.of.result.status c.of.ensures.status
 
 pub returns-in-Err-clause-node : goal.returns-in-Err-clause-node
-returns-in-Err-clause-node g c bytes file = unserved _ _ _ _ _ _ _ c.of-in-Err.ensures.status c.of-in-Err.ensures.not_served
+returns-in-Err-clause-node g c bytes file =
+    let up = c.in-Ok.ensures.set_up in
+    unserved _ _ _ _ _ _ _ c.of-in-Err.ensures.status c.of-in-Err.ensures.not_served (inr (record {
+      lines = c.args.lines.now;
+      file = file;
+      now = c.now-now.result;
+      readings = g.C.Clock.readings c.now-now.new.self;
+      reads = c.now-now.ensures.reading;
+      words = up.0;
+      router = c.in-Ok.router;
+      set_up = up.1;
+      starves = rw (← c.from.ensures) c.in-Err.ensures.starved;
+    }))
 
 pub returns-in-Err-clause-overfull : goal.returns-in-Err-clause-overfull
 returns-in-Err-clause-overfull g c now number full = starved c.of-in-Err.result.status c.of-in-Err.ensures.status
@@ -101,7 +113,8 @@ returns-in-Ok-serve-clause-within g c =
     let up = c.in-Ok.ensures.set_up in
     let s = c.in-Ok-serve.served in
     let limit = c.in-Ok-serve.ensures.limit ∙ limit_of_set_up c.limit_stays.ensures c.args.call.now.id c.args.lines.now c.now-now.result up.0 c.in-Ok.router up.1 in
-    within_told c.tell.result.status c.tell.result.served s (c.router_is_within_limits.ensures One s.router c.is_router.ensures limit) c.tell.ensures.served
+    within_told c.tell.result.status c.tell.result.served s (c.router_is_within_limits.ensures One s.router c.is_router.ensures limit)
+    c.in-Ok-serve.ensures.bounded c.tell.ensures.served
 
 pub returns-in-Ok-serve-clause-statuses : goal.returns-in-Ok-serve-clause-statuses
 returns-in-Ok-serve-clause-statuses g c =

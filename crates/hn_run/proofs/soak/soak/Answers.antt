@@ -8,7 +8,7 @@ use Rattle.hn_run.proofs.soak.soak.Goals as goal
 
 -- a soak is a run of `lab` on the text of its script
 abbrev as_lab : (bytes : List ℕ) (status : ℕ) (world : Option Parts) (written : List ℕ) (before after : Option (List ℕ))
-    → IsScriptPlay Mail Mail bytes status world written ⊎ IsUnread status world written → StatusOfScript Mail bytes status
+    → IsScriptPlay Mail Mail bytes status world written ⊎ IsUnread Mail Mail status world written → StatusOfScript Mail bytes status
     → Appends before after written → IsLabRun Mail Mail None status world before after
 as_lab bytes status world written before after comes only appends = record {
   bytes = bytes;
@@ -26,7 +26,7 @@ returns-in-Ok-clause-soak g c =
     let before = g.K.Sink.held c.args.out.now in
     let after = g.K.Sink.held c.play.new.out in
     let bytes = soak_text c.args.n c.args.seed in
-    let comes : IsScriptPlay Mail Mail bytes status c.play.result.world plays.0 ⊎ IsUnread status c.play.result.world plays.0 =
+    let comes : IsScriptPlay Mail Mail bytes status c.play.result.world plays.0 ⊎ IsUnread Mail Mail status c.play.result.world plays.0 =
     inl (record { script = c.in-Ok.script; is_script = c.in-Ok.ensures; plays = plays.1 }) in
     let only : StatusOfScript Mail bytes status = record {
       done = λ script is done. c.play.ensures.done (subst (HasDonePlay Mail) (c.script_is_unique.ensures _ script c.in-Ok.script is c.in-Ok.ensures) done);
@@ -49,7 +49,7 @@ returns-in-Err-clause-soak g c =
     let world = c.without_world.result.world in
     let held = g.K.Sink.held c.args.out.now in
     let bytes = soak_text c.args.n c.args.seed in
-    let comes : IsScriptPlay Mail Mail bytes status world [] ⊎ IsUnread status world [] = inr (six, c.without_world.ensures.no_world, refl) in
+    let comes : IsScriptPlay Mail Mail bytes status world [] ⊎ IsUnread Mail Mail status world [] = inr (six, c.without_world.ensures.no_world, refl, refl) in
     let only : StatusOfScript Mail bytes status = record {
       done = λ script is done two. absurd (omega (arith, six, two));
       refused = λ script is refused none. absurd (omega (arith, six, none));

@@ -447,7 +447,8 @@ one_round laws start heard since t notes before after replays step place r at re
       sends = sends_by laws start since place t.event t.words notes before step.between after replays replays_after same copies step.does r rest heard lossless calm one.goes sends;
     }
 
-pub all_rounds : RoundLaws → (start heard since place : ℕ) (ts : List Traced) (before after : Parts) (r : Member) → IsReplayed before → slice_get before.members place ≡ Some r → IsResting since before r
+pub all_rounds : RoundLaws → (start heard since place : ℕ) (ts : List Traced) (before after : Parts) (r : Member) → IsReplayed before
+    → slice_get before.members place ≡ Some r → IsResting since before r
     → AreHeardSince heard before r → heard ≤ before.moment → ArePeersLinked before r → AreSendsHeardSince start before r → GoesLossless heard since place before ts after
     → GoesRound start heard since place before after r
 all_rounds laws start heard since place [] before after r replays at rest peers later linked sends is =

@@ -1,6 +1,6 @@
 -- Which words are chosen: trying a word, and what comes of words.
 use Rattle.hn_base.proofs.Names.{◌≡◌, ℕ, ◌+◌, ◌<◌, ◌≤◌, List, [], length, set, take, get_or, refl, sym, ap, ◌∙◌, subst, arith, inl, inr}
-use Rattle.hn_base.proofs.Names.{cases_lt, Option, All, Contains, filter, All-push, All-contains, All-contains_itself, All-filter, take_all, Bool, false, None, is_some, IfNone, IfSome, count_by-le-length, Begins, Some, Took}
+use Rattle.hn_base.proofs.Names.{cases_lt, Option, All, Contains, filter, All-push, All-contains, All-contains_itself, All-filter, take_all, Bool, false, None, is_some, IfNone, IfSome, count_by, length-filter, ◌*◌, count_by-le-length, Begins, Some, Took}
 use Rattle.hn_base.proofs.Elements.{in_filter}
 use Rattle.hn_base.proofs.FirstWords.{begins_along}
 use Rattle.hn_base.proofs.FrontOfList.{front_more}
@@ -118,12 +118,16 @@ each_of P xs x all there = All-contains P xs x all there
 pub chosen_of : (ask : PlainAsked) (words : List ℕ) (next : State) (kept : ℕ) (missed : List Preferred)
     → ComesTo ask (listed_word words ask.words) words next → AreDrawn ask.preferred ask.words words → kept ≡ kept_in ask next
     → missed ≡ filter (is_missed ask.moment next.held.assigned) ask.preferred
-    → All (λ f. (place : ℕ) → place < length words → IsNoBetter ask words kept f place) missed → AreChosen ask words
-chosen_of ask words next kept missed comes drawn kept_is missed_are none = record {
-  next = next;
-  comes = comes;
-  drawn = drawn;
-  best = λ f there is place below.
-      let among : Contains missed f = subst (λ (fs : List Preferred). Contains fs f) (sym missed_are) (in_filter (is_missed ask.moment next.held.assigned) ask.preferred f there is) in
-      subst (λ (n : ℕ). IsNoBetter ask words n f place) kept_is (each_of (λ g. (p : ℕ) → p < length words → IsNoBetter ask words kept g p) missed f none among place below);
-}
+    → (length missed * length words ≤ 1024 → All (λ f. (place : ℕ) → place < length words → IsNoBetter ask words kept f place) missed) → AreChosen ask words
+chosen_of ask words next kept missed comes drawn kept_is missed_are none =
+    let test = is_missed ask.moment next.held.assigned in
+    let counted : length missed ≡ count_by test ask.preferred = ap length missed_are ∙ length-filter test ask.preferred in
+    record {
+      next = next;
+      comes = comes;
+      drawn = drawn;
+      best = λ few f there is place below.
+          let among : Contains missed f = subst (λ (fs : List Preferred). Contains fs f) (sym missed_are) (in_filter test ask.preferred f there is) in
+          let all = none (subst (λ (n : ℕ). n * length words ≤ 1024) (sym counted) few) in
+          subst (λ (n : ℕ). IsNoBetter ask words n f place) kept_is (each_of (λ g. (p : ℕ) → p < length words → IsNoBetter ask words kept g p) missed f all among place below);
+    }

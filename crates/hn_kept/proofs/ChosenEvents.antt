@@ -28,7 +28,7 @@ acts_over one now event k after listed g told_after same happened took drawn cho
       happened = happened;
       drew = drawn_first k.preferred listed k.words after.done.words drawn begins;
       words = words;
-      best = λ tick f there. best_of_chosen one (asked_of now event k) listed (chosen tick (some f there)) after.router after.done happened begins f there;
+      best = λ tick few f there. best_of_chosen one (asked_of now event k) listed (chosen tick (some f there)) after.router after.done happened begins few f there;
       told = told;
       preferred = preferred;
     }

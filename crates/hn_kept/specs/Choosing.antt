@@ -1,5 +1,6 @@
 -- Which words a router takes for an event where prefixes are preferred.
-use Rattle.std.specs.Prelude.{◌≡◌, ℕ, ◌<◌, ◌≤◌, true, List, length, set, Contains}
+use Rattle.std.specs.Prelude.{◌≡◌, ℕ, ◌*◌, ◌<◌, ◌≤◌, true, List, length, set, Contains}
+use Rattle.std.specs.List.{count_by}
 use Rattle.rand_chacha.specs.ChaCha.{ChaCha}
 use Rattle.hn_base.specs.Words.{Begins}
 use Rattle.hn_rules.specs.declared.state.State.{State}
@@ -39,10 +40,15 @@ IsNoBetter ask words kept f place =
     (next : State) (done : Done) → Happened ask.moment ask.event ask.router next done
     → Begins done.words (listed_word (set words place (word_of f)) ask.words) → kept_in ask next ≤ kept
 
--- So it is with each place of these words, for each pair for which the router publishes another prefix anew.
+-- As many words are tried as an event has, for each pair for which the router publishes another prefix than the preferred one
+-- anew. That is done where these are 1,024 at most.
+abbrev pub AreFewToTry : PlainAsked → List ℕ → State → Type 0
+AreFewToTry ask words next = count_by (is_missed ask.moment next.held.assigned) ask.preferred * length words ≤ 1024
+
+-- Then it is so with each place of these words, for each such pair.
 abbrev pub AreBest : PlainAsked → List ℕ → State → Type 0
 AreBest ask words next =
-    (f : Preferred) → Contains ask.preferred f → is_missed ask.moment next.held.assigned f ≡ true
+    AreFewToTry ask words next → (f : Preferred) → Contains ask.preferred f → is_missed ask.moment next.held.assigned f ≡ true
     → (place : ℕ) → place < length words → IsNoBetter ask words (kept_in ask next) f place
 
 -- the words that are chosen

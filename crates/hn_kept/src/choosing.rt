@@ -1,7 +1,7 @@
 //! Which words a router takes for an event where prefixes are preferred: those of its generator, but that a word which
 //! gave a preferred pair another prefix may be that of the preferred place.
 
-ghost use Rattle.std.specs.Prelude.{◌≡◌, ℕ, ◌^◌, ◌<◌, ◌≤◌, length, set, All, Contains, IfOk, IfSome, IfNone};
+ghost use Rattle.std.specs.Prelude.{◌≡◌, ℕ, ◌*◌, ◌^◌, ◌<◌, ◌≤◌, false, length, set, All, Contains, IfOk, IfSome, IfNone};
 ghost use Rattle.hn_router.specs.Act.{plain_event};
 ghost use Rattle.hn_kept.specs.Choosing.{plain_asked, ComesTo, kept_in, IsNoBetter, AreChosen};
 ghost use Rattle.hn_kept.specs.Words.{listed_word, AreDrawn};
@@ -12,6 +12,9 @@ use hn_base::{Moment, NoMemory, Words};
 use hn_router::{Event, Router, event_in_range, one_result, router_stays};
 use hn_rules::Done;
 use std::alloc::Global;
+
+/// How many words are tried at most, each for each pair that misses its prefix, before one is taken or none is better.
+const MOST_TRIED: usize = 1024;
 
 /// An event of a router at a moment, the generator of its next words, and what is preferred.
 #[derive(Clone, Copy)]
@@ -31,6 +34,13 @@ fn instead(alloc: Global, words: &[u32], place: usize, word: u32) -> Result<Vec<
     let mut others = Vec::from_slice(alloc, words)?;
     others[place] = word;
     Ok(others)
+}
+
+/// Whether so many words may be tried for so many pairs.
+fn are_few(missed: usize, words: usize) -> bool
+    ensures { result ≡ false → 1024 < missed * words }
+{
+    missed.saturating_mul(words) <= MOST_TRIED
 }
 
 impl Asked<'_> {
@@ -89,7 +99,7 @@ impl Asked<'_> {
         Ok(None)
     }
 
-    /// So for each of some preferred prefixes.
+    /// So for each of some preferred prefixes, if few words are to be tried.
     fn better(
         &self,
         alloc: Global,
@@ -105,8 +115,11 @@ impl Asked<'_> {
         ensures comes { IfOk result (λ found. IfSome found (λ w. ComesTo (plain_asked self.now) (listed_word w self.now.words.now) w seen.new)) }
         ensures drawn { IfOk result (λ found. IfSome found (AreDrawn self.now.preferred.now self.now.words.now)) }
         ensures more { IfOk result (λ found. IfSome found (λ w. kept < kept_in (plain_asked self.now) seen.new)) }
-        ensures none { IfOk result (λ found. IfNone found (All (λ f. (place : ℕ) → place < length words.now → IsNoBetter (plain_asked self.now) words.now kept f place) missed.now)) }
+        ensures none { IfOk result (λ found. IfNone found (length missed.now * length words.now ≤ 1024 → All (λ f. (place : ℕ) → place < length words.now → IsNoBetter (plain_asked self.now) words.now kept f place) missed.now)) }
     {
+        if !are_few(missed.len(), words.len()) {
+            return Ok(None);
+        }
         for wanted in missed {
             let found = self.better_word(alloc, words, kept, wanted, seen)?;
             if found.is_some() {

@@ -15,6 +15,6 @@ loop-wanted-preserved c =
     (if_none (NoBetter c.wanted-item.result) c.in_ok-found.found (sym c.is_some.ensures ∙ c.if-is_some.false) c.in_ok-found.ensures.none)
 
 pub returns-clause-none : goal.returns-clause-none
-returns-clause-none c =
+returns-clause-none c = λ few.
     all_taken (λ f. (place : ℕ) → place < length c.args.words.now → IsNoBetter (plain_asked c.args.self.now) c.args.words.now c.args.kept f place)
     c.args.missed.now c.loop-wanted.wanted-index c.loop-wanted-test.false c.loop-wanted.invariant

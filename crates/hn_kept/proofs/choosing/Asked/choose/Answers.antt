@@ -1,4 +1,4 @@
-use Rattle.hn_base.proofs.Names.{◌≡◌, ◌∙◌, ◌<◌, ℕ, List, [], length, filter, refl, ap, subst, arith, All}
+use Rattle.hn_base.proofs.Names.{◌≡◌, ◌∙◌, ◌<◌, ◌≤◌, ◌*◌, ℕ, List, [], length, filter, refl, ap, subst, arith, All}
 use Rattle.hn_assign.specs.declared.assigned.Assigned.{Assigned}
 use Rattle.hn_assign.specs.declared.held.Held.{Held}
 use Rattle.hn_kept.specs.declared.preferred.Preferred.{Preferred}
@@ -44,7 +44,6 @@ returns-in-None c =
     let kept : ℕ = c.kept-kept.result in
     let assigned : c.as_slice-assigned.result.now ≡ c.loop.seen.held.assigned = c.as_slice-assigned.ensures.value ∙ ap (λ (h : Held). h.assigned) c.held.ensures in
     let missed_are = c.as_slice-in-loop.ensures.value ∙ c.in_ok-missed.ensures ∙ ap (λ (a : List Assigned). filter (is_missed ask.moment a) ask.preferred) assigned in
-    let none : All (λ f. (place : ℕ) → place < length c.as_slice.result.now → IsNoBetter ask c.as_slice.result.now kept f place) missed =
-    of_none (All (λ f. (place : ℕ) → place < length c.as_slice.result.now → IsNoBetter ask c.as_slice.result.now kept f place) missed) c.in_ok-found.found c.in-None.is c.in_ok-found.ensures.none in
-    chosen_of ask c.loop.words c.loop.seen kept missed c.loop.invariant.comes c.loop.invariant.drawn c.kept-kept.ensures missed_are
-    (subst (λ (ws : List ℕ). All (λ f. (place : ℕ) → place < length ws → IsNoBetter ask ws kept f place) missed) c.as_slice.ensures none)
+    let NoBetter : List ℕ → Type 0 = λ ws. length missed * length ws ≤ 1024 → All (λ f. (place : ℕ) → place < length ws → IsNoBetter ask ws kept f place) missed in
+    let none : NoBetter c.as_slice.result.now = of_none (NoBetter c.as_slice.result.now) c.in_ok-found.found c.in-None.is c.in_ok-found.ensures.none in
+    chosen_of ask c.loop.words c.loop.seen kept missed c.loop.invariant.comes c.loop.invariant.drawn c.kept-kept.ensures missed_are (subst NoBetter c.as_slice.ensures none)

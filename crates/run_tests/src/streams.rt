@@ -1,37 +1,9 @@
-use hn_io::{IoFault, MemSink, MemSource, Sink, Source};
-use hn_run::{BAD_USAGE, DONE, Form, REFUSED, SINK_FAILED, SOURCE_FAILED, run};
+use hn_io::{MemSink, MemSource, Sink, Source};
+use hn_run::{DONE, REFUSED, SINK_FAILED, SOURCE_FAILED, run};
 use hn_wire::{MemClock, MemWire, Wire};
 use std::alloc::{AllocError, Global};
 use std::process::Abort;
 use std::test::Fail;
-
-/// A source that gives, or a sink that takes, one byte at a time.
-#[derive(Drop)]
-struct OneByte<T>(T);
-
-impl<S: Source> Source for OneByte<S> {
-    ghost faults = { λ s. S.faults s.0 };
-
-    ghost left = { λ s. S.left s.0 };
-
-    ghost never_fails = { λ s. S.never_fails s.0 };
-
-    fn read(&mut self, buf: &mut [u8]) -> Result<usize, IoFault> {
-        self.0.read(&mut buf[..1])
-    }
-}
-
-impl<K: Sink> Sink for OneByte<K> {
-    ghost faults = { λ s. K.faults s.0 };
-
-    ghost held = { λ s. K.held s.0 };
-
-    ghost never_fails = { λ s. K.never_fails s.0 };
-
-    fn write(&mut self, piece: &[u8]) -> Result<usize, IoFault> {
-        self.0.write(&piece[..1])
-    }
-}
 
 /// The words of a command line, with one space between two of them. An empty line has none.
 pub fn words(alloc: Global, line: &str) -> Result<Vec<String>, AllocError> {
@@ -95,72 +67,6 @@ pub fn holds_lines(sink: &MemSink, count: u64, text: &str) -> bool {
     let held = sink.held();
     let ends = held.last().is_none_or(|byte| *byte == b'\n');
     ends && lines_of(held) == count && text.as_bytes().starts_with(held)
-}
-
-#[test]
-fn texts_that_are_no_hexadecimal(rt: HostRuntime) -> Result<(), Fail> {
-    let alloc = rt.alloc();
-    for text in ["007B00017800000", "007B0001780000x0", "007B0001\t78000000"] {
-        let (status, sink) = ran(alloc, "hncp decode", text.as_bytes().to_vec(alloc)?, 0, 0)?;
-        assert!(rt; status == REFUSED, "{text:?}: {status}");
-        assert!(rt; sink.held() == b"refused 0 4\n".as_slice(), "{text:?}");
-    }
-    Ok(())
-}
-
-#[test]
-fn a_source_that_is_too_long(rt: HostRuntime) -> Result<(), Fail> {
-    let alloc = rt.alloc();
-    for line in ["hncp decode", "hncp lab"] {
-        let blanks = vec![in alloc; b' '; 16_777_217]?;
-        let (status, sink) = ran(alloc, line, blanks, 0, 0)?;
-        assert!(rt; status == REFUSED, "{line}: {status}");
-        assert!(rt; sink.held() == b"refused 0 15\n".as_slice(), "{line}");
-    }
-    Ok(())
-}
-
-/// Command lines that are bad usage.
-const BAD_LINES: &str = "
-hncp
-lab
-hncp -x
-hncp Lab
-hncp lab -x
-soak 6 1
-hncp soak
-hncp soak 2
-hncp soak 1 1
-hncp soak 33 1
-hncp soak 6 18446744073709551616
-hncp soak 6 000000000000000000001
-hncp soak 6 -1
-hncp soak  1
-hncp soak 6 1 1
-hncp lab 6 1
-hncp lab 9000
-hncp udp
-hncp udp 1023
-hncp udp 65535
-hncp udp 9000 9001
-udp 9000
-";
-
-#[test]
-fn words_that_are_bad_usage(rt: HostRuntime) -> Result<(), Fail> {
-    let alloc = rt.alloc();
-    for line in BAD_LINES.lines() {
-        let mut source = MemSource::new(b"hncp 1\n".to_vec(alloc)?, Vec::new(alloc));
-        let mut sink = MemSink::new(alloc, Vec::new(alloc));
-        let came_to = play(alloc, line, &mut source, &mut sink)?;
-        assert!(rt; came_to == (BAD_USAGE, None), "{line:?}");
-        assert!(rt; sink.held().is_empty());
-        assert!(rt;
-            source.read(&mut [0; 8]) == Ok(7),
-            "the source is as before"
-        );
-    }
-    Ok(())
 }
 
 /// The script of two lone routers.
@@ -249,39 +155,6 @@ fn each_read_and_write_fails_in_turn(rt: HostRuntime) -> Result<(), Fail> {
         ("hncp watch", "-\n00 ", REFUSED, "refused 2 4\n"),
     ] {
         fails_in_turn(&rt, rt.alloc(), line, input, status, text)?;
-    }
-    Ok(())
-}
-
-#[test]
-fn one_byte_at_a_time(rt: HostRuntime) -> Result<(), Fail> {
-    let alloc = rt.alloc();
-    for (line, input, text, events) in [
-        ("hncp lab", TWO_ROUTERS, TWO_ROUTERS_TEXT, Some(2)),
-        ("hncp decode", NESTED, NESTED_TEXT, None),
-    ] {
-        let bytes = input.as_bytes().to_vec(alloc)?;
-        let mut source = OneByte(MemSource::new(bytes, Vec::new(alloc)));
-        let mut sink = OneByte(MemSink::new(alloc, Vec::new(alloc)));
-        let came_to = play(alloc, line, &mut source, &mut sink)?;
-        assert!(rt; came_to == (DONE, events), "{line}");
-        assert!(rt; sink.0.held() == text.as_bytes(), "{line}");
-    }
-    Ok(())
-}
-
-#[test]
-fn words_that_ask_for_a_soak(rt: HostRuntime) -> Result<(), Fail> {
-    for (line, n, seed) in [
-        ("hncp soak 2 0", 2, 0),
-        ("hncp soak 6 1", 6, 1),
-        ("hncp soak 32 18446744073709551615", 32, u64::MAX),
-        ("hncp soak 00000000000000000006 00000000000000000001", 6, 1),
-    ] {
-        let form = Form::of(&words(rt.alloc(), line)?);
-        let asked =
-            matches!(form, Some(Form::Soak { n: asked, seed: with }) if asked == n && with == seed);
-        assert!(rt; asked, "{line}");
     }
     Ok(())
 }

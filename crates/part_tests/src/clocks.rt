@@ -1,16 +1,7 @@
-use hn_wire::{Clock, MachineClock, MemClock};
+use hn_wire::{Clock, MachineClock};
 use std::test::Fail;
 use std::time::{Duration, Instant};
 use std::{io, thread, time};
-
-#[test]
-fn the_last_reading_is_repeated(rt: HostRuntime) -> Result<(), Fail> {
-    let mut clock = MemClock::new(vec![in rt.alloc(); 0, 0, 200]?);
-    for (place, reading) in [0, 0, 200, 200].iter().enumerate() {
-        assert!(rt; clock.now() == *reading, "reading {place}");
-    }
-    Ok(())
-}
 
 /// A clock of the system that goes 100,000 times as fast as another.
 #[derive(Drop)]

@@ -1,34 +1,10 @@
 use crate::cases::says;
 use hn_advert::{PREFIX_TOO_LONG, RaFault, ReadFault};
-use hn_base::{Bytes, Name, NoMemory, NodeId, NodeIds, Shared, older, sort_to_set};
+use hn_base::{Name, NoMemory, older};
 use hn_script::ScriptFault;
 use hn_tlv::{ListFault, PADDING_NOT_ZERO, TlvFault};
 use hn_typed::{ItemFault, NO_TEXT};
 use std::test::Fail;
-
-// Each call that takes memory.
-
-#[test]
-fn bytes_are_copied(rt: HostRuntime) -> Result<(), Fail> {
-    assert!(rt; Bytes::copy_of(rt.alloc(), b"hncp")?.as_slice() == b"hncp".as_slice());
-    Ok(())
-}
-
-#[test]
-fn a_list_of_nodes_is_copied(rt: HostRuntime) -> Result<(), Fail> {
-    let mut nodes = vec![in rt.alloc(); NodeId(7), NodeId(3), NodeId(7)]?;
-    sort_to_set(&mut nodes);
-    let ids = NodeIds::from(nodes).copy(rt.alloc())?;
-    assert!(rt; ids.as_slice() == [NodeId(3), NodeId(7)].as_slice());
-    Ok(())
-}
-
-#[test]
-fn a_value_is_shared(rt: HostRuntime) -> Result<(), Fail> {
-    let shared = Shared::new(rt.alloc(), 7u32)?;
-    assert!(rt; *shared.clone()?.get() == 7);
-    Ok(())
-}
 
 /// Sequence numbers around the wrap, and 2^31 apart (RFC 7787, section 4.4).
 #[test]

@@ -131,17 +131,6 @@ fn scripts_are_read_and_printed(rt: HostRuntime) -> Result<(), Fail> {
 
 const NUMBERED: &str = "hncp 1\n\nflow\n# a comment\n   \nmail\n  # another\nshow A";
 
-#[test]
-fn lines_have_numbers(rt: HostRuntime) -> Result<(), Fail> {
-    let script = parse(rt.alloc(), NUMBERED.as_bytes())?;
-    let mut numbers = Vec::new(rt.alloc());
-    for (number, _) in script.lines.as_slice() {
-        numbers.push(*number)?;
-    }
-    assert!(rt; numbers.as_slice() == [3, 6, 8].as_slice());
-    Ok(())
-}
-
 /// Each of these texts, with bars between them, has its first fault in a line, of a code.
 fn are_refused(rt: &impl Abort, alloc: Global, texts: &str, line: u32, code: u8) {
     let fault = ScriptFault { line, code };

@@ -47,7 +47,7 @@ fn counts(world: &World) -> (usize, usize) {
 }
 
 /// The world of a script.
-pub(crate) fn world_of(alloc: Global, script: &str) -> Result<Option<World>, AllocError> {
+fn world_of(alloc: Global, script: &str) -> Result<Option<World>, AllocError> {
     let text = script.as_bytes().to_vec(alloc)?;
     let mut source = MemSource::new(text, Vec::new(alloc));
     let mut sink = MemSink::new(alloc, Vec::new(alloc));

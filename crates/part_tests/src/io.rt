@@ -1,7 +1,4 @@
-use hn_io::{
-    Draw, IoFault, Listed, MemSink, MemSource, Pcg, ReaderSource, Sink, Source, WriterSink, Zeros,
-    below,
-};
+use hn_io::{Draw, IoFault, Listed, Pcg, ReaderSource, Sink, Source, WriterSink, Zeros, below};
 use std::io;
 use std::io::{Error, ErrorKind, Read, Write};
 use std::test::Fail;
@@ -108,38 +105,6 @@ fn a_sink_calls_its_writer(rt: HostRuntime) {
         "each write is one call of the writer, and one more after an interruption"
     );
     assert!(rt; first == b'v');
-}
-
-/// Whether a read gives this answer, and the buffer has these bytes then.
-fn reads(
-    source: &mut MemSource,
-    buf: &mut [u8; 4],
-    answer: Result<usize, IoFault>,
-    bytes: &[u8; 4],
-) -> bool {
-    source.read(buf) == answer && *buf == *bytes
-}
-
-#[test]
-fn a_source_in_memory(rt: HostRuntime) -> Result<(), Fail> {
-    let bytes = b"router".to_vec(rt.alloc())?;
-    let mut source = MemSource::new(bytes, vec![in rt.alloc(); 2]?);
-    let mut buf = [0; 4];
-    assert!(rt; reads(&mut source, &mut buf, Ok(4), b"rout"));
-    assert!(rt; reads(&mut source, &mut buf, Err(IoFault::Failed), b"rout"));
-    assert!(rt; reads(&mut source, &mut buf, Ok(2), b"erut"));
-    assert!(rt; reads(&mut source, &mut buf, Ok(0), b"erut"));
-    Ok(())
-}
-
-#[test]
-fn a_sink_in_memory(rt: HostRuntime) -> Result<(), Fail> {
-    let mut sink = MemSink::new(rt.alloc(), vec![in rt.alloc(); 2]?);
-    assert!(rt; sink.write(b"show ") == Ok(5));
-    assert!(rt; sink.write(b"lost") == Err(IoFault::Failed));
-    assert!(rt; sink.write(b"A") == Ok(1));
-    assert!(rt; sink.held() == b"show A".as_slice());
-    Ok(())
 }
 
 /// Words of a list and then zeros. The reference value of the original crate for seed 0 is one 64-bit word; its low half

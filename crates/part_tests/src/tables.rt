@@ -1,5 +1,5 @@
 use crate::cases::bytes;
-use hn_base::{Moment, NodeId, NodeIds};
+use hn_base::{NodeId, NodeIds};
 use hn_store::{LARGE_LIMIT, OwnLeaf, State, Table, Took};
 use std::alloc::Global;
 use std::process::Abort;
@@ -149,33 +149,4 @@ fn is_full(rt: &impl Abort, alloc: Global, mut table: Table, last: u32) -> Resul
 fn full_tables(rt: HostRuntime) -> Result<(), Fail> {
     is_full(&rt, rt.alloc(), Table::new(rt.alloc()), 257)?;
     is_full(&rt, rt.alloc(), Table::sized(rt.alloc(), LARGE_LIMIT), 1025)
-}
-
-/// Nodes 2 and 3 are taken and marked at two moments, of which node 2 is lost at the first; and node 2 is taken anew.
-fn lose(alloc: Global, table: &mut Table) -> Result<(), Fail> {
-    take(alloc, table, (3, 1), EMPTY, b"")?;
-    take(alloc, table, (2, 1), EMPTY, b"")?;
-    table.mark(&[NodeId(1), NodeId(3)], 1000);
-    table.mark(&[NodeId(1)], 2000);
-    take(alloc, table, (2, 2), EMPTY, b"")?;
-    Ok(())
-}
-
-/// Since when a node that is held is lost.
-fn lost(table: &Table, node: u32) -> Option<Moment> {
-    table.get(NodeId(node))?.lost
-}
-
-#[test]
-fn lost_nodes(rt: HostRuntime) -> Result<(), Fail> {
-    let mut table = Table::new(rt.alloc());
-    lose(rt.alloc(), &mut table)?;
-    assert!(rt; lost(&table, 2) == Some(1000));
-    assert!(rt; table.needs_mark(&[NodeId(3), NodeId(1)]));
-    table.mark(&[NodeId(3), NodeId(1)], 4000);
-    assert!(rt; !table.needs_mark(&[NodeId(3), NodeId(1)]));
-    assert!(rt; !table.needs_forget(42_999) && table.forget(42_999) == 0);
-    assert!(rt; table.needs_forget(43_000) && table.forget(43_000) == 1);
-    assert!(rt; table.get(NodeId(2)).is_none() && table.len() == 1);
-    Ok(())
 }

@@ -72,6 +72,7 @@ class Home:
         self.said = self.said_last()
         self.hashes = {}     # node -> the network state hash of what it reaches, where the data of that are known
         self.confirmed = self.find_confirmed()
+        self.homes = self.find_homes()
         self.young = []      # what does not fit, in a home that changed too lately to be judged
 
     def silence_of(self, endpoint):
@@ -120,6 +121,14 @@ class Home:
             if reached[node][1] == digest:
                 found |= reached[node][0]
         self.hashes.update((node, made) for node, (_, made) in reached.items() if made)
+        return found
+
+    def find_homes(self):
+        """Of each node that is reached the least one of its home: those that it reaches."""
+        found = {}
+        for node in sorted(self.reached):
+            if node not in found:
+                found.update(dict.fromkeys(self.reach([node]), node))
         return found
 
     def knows_all(self):
@@ -174,14 +183,19 @@ class Home:
 
     def judge_inside(self):
         for each in self.assigned:
-            if self.is_whole and has_scope(each.text) and not self.prefixes.around(each.prefix):
+            if self.is_whole and each.post[0] in self.confirmed and has_scope(each.text) and not self.prefixes.around(each.prefix):
                 yield finding('inside-nothing', each.state, f'{shown(each.text)} of endpoint {each.post[1]} is inside no delegated prefix')
 
     def judge_pairs(self):
-        for one, other in clashing(self.assigned, self.links.of):
-            yield self.clash('overlap', one, other, 'overlap, on two links')
-        first = {}
-        for each in sorted(self.assigned, key=lambda each: each.state.frame):
+        """What clashes within a home. Two homes that do not reach each other may have the same prefixes."""
+        by_home, first = {}, {}
+        for each in self.assigned:
+            if each.post[0] in self.confirmed:
+                by_home.setdefault(self.homes[each.post[0]], []).append(each)
+        for assigned in by_home.values():
+            for one, other in clashing(assigned, self.links.of):
+                yield self.clash('overlap', one, other, 'overlap, on two links')
+        for each in sorted((each for assigned in by_home.values() for each in assigned), key=lambda each: each.state.frame):
             link = self.links.of(each.post)
             for text in self.prefixes.around(each.prefix)[:1]:
                 one = first.setdefault((link, text), each)
@@ -197,13 +211,14 @@ class Home:
 
     def judge_addresses(self):
         first, assigned = {}, Prefixes(each.text for each in self.assigned)
-        for node in sorted(self.reached & set(self.data)):
+        for node in sorted(self.confirmed & self.reached & set(self.data)):
             for words in self.data[node].named('address'):
                 address, state = words['address'], self.data[node].state
                 if self.is_whole and not assigned.around(network(address)):
                     yield finding('address-outside', state, f'{shown(address)} is inside no assigned prefix')
-                if first.setdefault(address, node) != node:
-                    yield finding('address-twice', state, f'{shown(address)}, which node {first[address]} has too')
+                other = first.setdefault((self.homes[node], address), node)
+                if other != node:
+                    yield finding('address-twice', state, f'{shown(address)}, which node {other} has too')
 
     # The table
 

@@ -8,7 +8,8 @@ after 50 s, and in `one_moves` one is on another link from 41 s on, by the same 
 In `two_homes_that_meet` three routers and two are kept apart on one link for 120 s. In `two_that_part_and_meet` two routers do not
 hear each other from 40 s to 160 s. In `a_line_in_two_parts` that happens to the two in the middle of four from 60 s on, for good. In
 `one_is_alone` the second of three neither hears nor is heard from 30 s on. It had published the prefix of the link, which another one
-takes over; what it publishes then nobody sees.
+takes over; what it publishes then nobody sees. In `one_comes_back` one of four is alone from 10 s to 130 s, and the capture ends soon
+after.
 """
 import copy
 
@@ -29,6 +30,7 @@ FOUND = {
     'two_that_part_and_meet': '',
     'a_line_in_two_parts': '',
     'one_is_alone': '',
+    'one_comes_back': '',
 }
 # Of some what is found in the rest from so many seconds on. There the home is at rest, and no node data are shown.
 LATE = {('one_is_deaf', 30.0): 'apart unanswered', ('one_dies', 15.0): 'silent', ('one_of_two_dies', 30.0): 'silent'}

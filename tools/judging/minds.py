@@ -93,14 +93,16 @@ class Minds:
         return min(found)
 
     def since(self, post, other, has):
-        """Since when the data of a node have an endpoint as its peer, or have it not. None where the last ones do otherwise."""
+        """Since when the data of a node have an endpoint as its peer, or have it not. None where the last ones do otherwise. What it
+        published under a number that the capture does not show may be otherwise."""
         node, own = post
-        since = None
+        since = later = None
         for state in sorted(self.states.versions.get(node, ()), key=lambda state: state.moment - state.age, reverse=True):
             data = self.states.data.get(state.key)
-            if data is None or ((*other, own) in data.peers()) != has:
+            is_next = later is None or (later - state.number) % 2 ** 32 < 2
+            if data is None or not is_next or ((*other, own) in data.peers()) != has:
                 break
-            since = state.moment - state.age
+            since, later = state.moment - state.age, state.number
         return since
 
     def never_answered(self, one, other, since, until):

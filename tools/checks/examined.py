@@ -28,6 +28,7 @@ TOGETHER = 24            # devices that are examined at once: each waits for mos
 TRIES = 4                # how often a faulty device is examined until it is found: on a busy machine it may not come to answer
 BESIDE = 5               # other examinations of the same subject that a faulty device is put to
 WHOLE = 'EXAMINE_WHOLE'  # in the environment: a faulty device is put to all examinations of its subject
+SLACK = '5000'           # milliseconds that moments may be off: a busy machine lets a device send late
 PATIENCE = 1200          # seconds after which an examination is given up
 MIDDLE = '7fff0001'      # an identifier that others can be below and above
 # What a row of docs/RFC.md may say `no` of, by its words, and the examination that fails then.
@@ -145,7 +146,7 @@ class Runs:
         for _ in range(TRIES):
             with Place(mark, links, fault) as place:
                 place.daemon(self.daemon) if by_daemon else place.relay()
-                status, text, messages = place.examine('--json', self.report(mark), *words)
+                status, text, messages = place.examine('--slack', SLACK, '--json', self.report(mark), *words)
             must(status in (0, 1, FOUND) and 'Traceback' not in messages, f'{mark}: status {status}: {messages[-300:]}')
             if not messages and os.path.exists(self.report(mark)):
                 return verdicts(self.report(mark))

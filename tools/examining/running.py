@@ -29,7 +29,7 @@ def prepare(words, record, stack):
     for name in words.interfaces:
         ends.append(Link(name, record))
         stack.callback(ends[-1].close)
-    session = Session(ends, record)
+    session = Session(ends, record, words.slack)
     session.find(words.device)
     for device in session.devices:
         print(f'device {device}, heard on {device.link.name}', flush=True)

@@ -12,6 +12,7 @@ from examining.neighbour import Neighbour
 from examining.watch import Watch
 from examining.wire import NETWORK_STATE, NODE_ENDPOINT, REQUEST_NETWORK, REQUEST_NODE, four, tlv
 
+SLACK = 1.0              # seconds that moments may be off for judge, on a busy machine
 PATIENCE = 27.0          # seconds until somebody is heard: the keep-alive interval, and some
 ASKED = (0.0, 0.5, 1.0, 2.0, 4.0, 8.0, 16.0)      # moments at which everybody is asked
 MORE = 1.5               # seconds to hear who else is there
@@ -49,8 +50,8 @@ class Result:
 class Session:
     """All that is heard and sent while a device is examined."""
 
-    def __init__(self, ends, record):
-        self.ends, self.record = ends, record
+    def __init__(self, ends, record, slack=SLACK):
+        self.ends, self.record, self.slack = ends, record, slack
         self.neighbours = []
         self.devices = []           # the device on each link
         self.nodes = {}             # (link, address) -> the last Node Endpoint that was heard from there

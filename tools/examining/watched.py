@@ -6,7 +6,6 @@ from examining.prefixes import drawn_prefix, must_assign
 from examining.wire import delegated, external
 from judging.judgement import Judgement
 
-SLACK = 1.0              # seconds that moments may be off on a busy machine
 SHOWN = 3                # findings that are told
 BURDENED = ('other-endpoint', 'two-sources')     # what follows where a device had to leave its identifier
 # What the examiner brings about: it says other hashes, leaves requests open, and is no peer for long.
@@ -28,7 +27,7 @@ def assigns_no_prefixes_that_overlap(x):
 
 def findings(x, before):
     """What judge finds of the device in the frames before one."""
-    made = Judgement(slack=SLACK)
+    made = Judgement(slack=x.session.slack)
     for datagram in captures.read(x.session.record.path, [captures.PORT]):
         if before is None or datagram.frame < before:
             made.take(datagram)

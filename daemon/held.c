@@ -1,5 +1,5 @@
 /* What a multicast makes the router send by unicast waits for a random time, so that not all nodes of a link answer it at
- * once (RFC 7787, section 4.4). */
+ * once; and requests of the network state on a link stay apart (RFC 7787, section 4.4). */
 #include "hnd.h"
 
 #include <stdlib.h>
@@ -11,7 +11,7 @@ enum { MOST_HELD = 64, MOST_HELD_BYTES = 262144 };
 struct held {
     struct held *next;
     hn_sent sent;
-    uint64_t at;
+    uint64_t at, gap;
     size_t count;
     uint8_t bytes[];
 };
@@ -19,21 +19,30 @@ struct held {
 static struct held *first;
 static size_t held_count, held_bytes;
 
-/* Keeps a datagram until a moment. Without place it is dropped, as it could be lost on the link. */
-void hold(const hn_sent *sent, uint64_t at, const uint8_t *bytes, size_t count)
+/* Puts a datagram behind those that go out before it, or at the same moment. */
+static void insert(struct held *made)
 {
-    struct held **place = &first, *made = NULL;
+    struct held **place = &first;
+    while (*place != NULL && (*place)->at <= made->at)
+        place = &(*place)->next;
+    made->next = *place;
+    *place = made;
+}
+
+/* Keeps a datagram until a moment. A request has a gap: so many milliseconds it stays behind the one before. Without place it is
+ * dropped, as it could be lost on the link. */
+void hold(const hn_sent *sent, uint64_t at, uint64_t gap, const uint8_t *bytes, size_t count)
+{
+    struct held *made = NULL;
     if (held_count < MOST_HELD && held_bytes + count <= MOST_HELD_BYTES)
         made = malloc(sizeof *made + count);
     if (made == NULL) {
         say(OF_SEND, "unsent %s bytes=%zu why=\"too many replies wait\"", link_of_endpoint(sent->endpoint)->name, count);
         return;
     }
-    while (*place != NULL && (*place)->at <= at)
-        place = &(*place)->next;
-    *made = (struct held){.next = *place, .sent = *sent, .at = at, .count = count};
+    *made = (struct held){.sent = *sent, .at = at, .gap = gap, .count = count};
     memcpy(made->bytes, bytes, count);
-    *place = made;
+    insert(made);
     held_count++;
     held_bytes += count;
 }
@@ -54,11 +63,20 @@ static void remove_held(struct held **place)
     free(it);
 }
 
-/* Sends those whose moment has come. */
+/* Sends those whose moment has come. On a busy machine a request may have gone out late: then the next one waits for longer. */
 void send_held(void)
 {
-    while (first != NULL && first->at <= now()) {
-        send_out(udp, link_of_endpoint(first->sent.endpoint), first->sent.to, first->sent.port, first->bytes, first->count);
+    for (struct held *it; (it = first) != NULL && it->at <= now();) {
+        struct link *link = link_of_endpoint(it->sent.endpoint);
+        if (it->gap > 0 && now() < link->asked_at + it->gap) {
+            first = it->next;
+            it->at = link->asked_at + it->gap;
+            insert(it);
+            continue;
+        }
+        send_out(udp, link, it->sent.to, it->sent.port, it->bytes, it->count);
+        if (it->gap > 0)
+            link->asked_at = now();
         remove_held(&first);
     }
 }

@@ -61,7 +61,7 @@ struct link {
     uint64_t freed;       /* when its peers may be dropped again */
     uint64_t sent;        /* when the router sent to the group last */
     uint64_t asked;       /* when it made the last request of the network state, */
-    uint64_t asked_at;    /* and when that goes out */
+    uint64_t asked_at;    /* and when one went out last */
     uint8_t address[16];  /* its link-local address, where it is fit */
     uint8_t hardware[6];
     bool has_hardware;
@@ -177,8 +177,8 @@ const hn_assigned *assignments(size_t *count);
 void want_report(void);
 void report(void);
 
-/* held.c: replies to multicasts wait a little. */
-void hold(const hn_sent *sent, uint64_t at, const uint8_t *bytes, size_t count);
+/* held.c: replies to multicasts wait a little, and requests for one another. */
+void hold(const hn_sent *sent, uint64_t at, uint64_t gap, const uint8_t *bytes, size_t count);
 uint64_t held_due(void);
 void send_held(void);
 void drop_held(const struct link *link);

@@ -51,27 +51,30 @@ static bool is_request(size_t count)
     return false;
 }
 
-/* When a request on a link goes out that is to do so at a moment: no nearer to the one before than it was made. */
-static uint64_t spaced(struct link *link, uint64_t at)
+/* How far a request of the last event stays behind the one before, in milliseconds. */
+static uint64_t gap_of_request(struct link *link)
 {
-    uint64_t gap = now() - link->asked, least = link->asked_at + earlier(gap, BETWEEN_REQUESTS);
-    link->asked = now();
-    link->asked_at = at < least ? least : at;
-    return link->asked_at;
+    uint64_t made = hn_router_moment(&router), gap = earlier(made - link->asked, BETWEEN_REQUESTS);
+    link->asked = made;
+    return gap;
 }
 
 /* Sends a datagram of the last event, which is in the room, at a moment: what answers a multicast waits for a while. */
 static void send_one(const hn_sent *sent, size_t count, uint64_t at)
 {
     struct link *link = link_of_endpoint(sent->endpoint);
-    if (sent->unicast && is_request(count))
-        at = spaced(link, at);
+    uint64_t gap = sent->unicast && is_request(count) ? gap_of_request(link) : 0;
+    if (gap > 0 && at < link->asked_at + gap)
+        at = link->asked_at + gap;
     if (sent->unicast && sent->port != PORT && settings.answers_own_port)
         say(OF_SEND, "unsent %s bytes=%zu why=\"it is for port %u\"", link->name, count, sent->port);
     else if (sent->unicast && at > now())
-        hold(sent, at, room, count);
-    else
+        hold(sent, at, gap, room, count);
+    else {
         send_out(udp, link, sent->to, sent->port, room, count);
+        if (gap > 0)
+            link->asked_at = now();
+    }
     if (!sent->unicast)
         link->sent = hn_router_moment(&router);
 }

@@ -36,7 +36,7 @@ LEFT = 16                         # seconds for which a daemon keeps what an ear
 REACHES = 5                       # seconds for which a host asks for echoes before all is looked at again
 SILENT = 45                       # seconds after which a router that is silent is lost
 AT_REST, FLOODED = 3000, 50000    # kB of memory at most: at rest, and whatever strangers do
-TABLE, CROWDED = 256, 90          # other nodes that a router knows at most, and seconds in which a crowd comes to all routers
+TABLE, CROWDED = 256, 180         # other nodes that a router knows at most, and seconds in which a crowd comes to all routers
 FLOOD = 50000, 5                  # datagrams a second, and seconds
 SHOWN = 1500                      # commands that write to the log that nobody reads: 200 kB or more
 STRANGER = 20                     # seconds for which each set of prefixes is told
@@ -429,13 +429,20 @@ class Home:
         self.tools.flooded.append(int(count) / float(seconds))
         self.must_rest('flooded')
 
+    def is_full(self, number):
+        """Whether the table of a router is full. A router that is busy may be slow to say."""
+        try:
+            return len(json.loads(self.routers[number].tell('show json')[0])['nodes']) > TABLE
+        except socket.timeout:
+            return False
+
     def play_crowd(self):
         """A stranger fills the table of each router with nodes, each of which has as many data as may be."""
         begun, unfilled = time.monotonic(), set(self.routers)
         with subprocess.Popen(self.stranger('crowd', CROWDED, TABLE - len(self.routers))) as process:
             while unfilled and process.poll() is None:
                 time.sleep(1)
-                unfilled = {number for number in unfilled if len(json.loads(self.routers[number].tell('show json')[0])['nodes']) <= TABLE}
+                unfilled = {number for number in unfilled if not self.is_full(number)}
             process.kill()
         must(not unfilled, f'{self.name}: the tables of routers {sorted(unfilled)} are not full')
         self.moments.append(Moment('tables full', time.monotonic() - begun))

@@ -17,24 +17,16 @@ enum { LEAST_BETWEEN = 3000, LONGEST_DELAY = 500, QUIET = 15000 };
  * change the next one comes after LEAST_BETWEEN, and up to TURN_MORE more, as often as it takes to tell each (hn_router.h). */
 enum { TURNS = 11, TURN_MORE = 3000 };
 
-/* In seconds: the most that hosts are told of a prefix (RFC 9096, section 3.4), and how long a server of names counts,
- * which is three times the longest interval (RFC 8106, section 5.1). */
-enum { MOST_PREFERRED = 2700, MOST_VALID = 5400, SERVER_LIFETIME = 1800 };
+/* In seconds: how long a server of names counts, which is three times the longest interval (RFC 8106, section 5.1). */
+enum { SERVER_LIFETIME = 1800 };
 
 /* Bytes: of the head, of a Prefix Information, and of the most that one packet takes, as much as the library gives at most:
  * 1,280 less the header of IPv6 and one of 8 bytes. */
-enum { HEAD = 16, INFO = 32, MOST_PACKET = 1232 };
+enum { HEAD = 16, INFO = 32, MOST_PACKET = 1232, MOST_OPTIONS = 16 + 16 * MOST_SERVERS };
 
-/* Kinds of options, and how many prefixes of earlier daemons are kept. */
-enum { SOURCE = 1, PREFIX = 3, SERVERS = 25, MOST_DEPARTED = 64 };
+/* Kinds of options. */
+enum { SOURCE = 1, PREFIX = 3, SERVERS = 25 };
 
-/* Prefixes that an earlier daemon had on a link, and until when hosts may hold them. */
-static struct {
-    const struct link *link;
-    struct prefix prefix;
-    uint64_t ends;
-} departed[MOST_DEPARTED];
-static size_t departed_count;
 static bool is_ending;
 
 /* Whether advertisements are sent on a link now. */
@@ -50,11 +42,12 @@ void begin_adverts(struct link *link)
     *it = (struct advertising){.begun = now(), .earliest = it->earliest, .next = now() + QUIET, .has_sent = it->has_sent};
 }
 
-/* Whether an earlier daemon had a prefix on a link. */
+/* Whether an earlier daemon had a prefix on a link that hosts may hold. */
 static bool has_departed(const struct link *link)
 {
-    for (size_t place = 0; place < departed_count; place++) {
-        if (departed[place].link == link)
+    hn_departed it;
+    for (size_t place = 0; place < hn_router_departures(&router); place++) {
+        if (is_done(hn_router_departed(&router, place, &it), "departed") && it.endpoint == link->endpoint && it.valid > 0)
             return true;
     }
     return false;
@@ -83,14 +76,14 @@ static void begin_anew(struct advertising *it)
     hasten(it, draw_number(LONGEST_DELAY));
 }
 
-/* A prefix that an earlier daemon had on a link: hosts are told that it is not preferred any more. */
-void remember_departed(struct link *link, const struct prefix *prefix)
+/* An earlier daemon had a prefix on a link, which is valid for so many seconds more: hosts are told that it is not preferred any
+ * more, unless it is assigned to the link again. */
+void tell_departed(struct link *link, const struct prefix *prefix, uint32_t valid)
 {
-    if (departed_count == MOST_DEPARTED)
+    if (is_assigned(link, prefix))
         return;
-    departed[departed_count].link = link;
-    departed[departed_count].prefix = *prefix;
-    departed[departed_count++].ends = now() + MOST_VALID * 1000;
+    if (hn_router_depart(&router, link->endpoint, prefix->bits, prefix->length, valid) == 1)
+        say(OF_CALL, "undone depart why=memory");
     begin_anew(&link->adverts);
 }
 
@@ -163,45 +156,6 @@ static void lower(size_t length)
     }
 }
 
-/* Whether a prefix is assigned to a link, applied or not. */
-static bool is_assigned(const struct link *link, const struct prefix *prefix)
-{
-    size_t count;
-    for (const hn_assigned *it = assignments(&count), *end = it + count; it < end; it++) {
-        if (it->endpoint == link->endpoint && it->length == prefix->length && memcmp(it->prefix, prefix->bits, 16) == 0)
-            return true;
-    }
-    return false;
-}
-
-/* Puts what an earlier daemon had on the link behind the prefixes in the room, with a preferred lifetime of 0. Returns the
- * length. */
-static size_t add_departed(const struct link *link, size_t length)
-{
-    size_t kept = 0, prefixes = length;
-    for (size_t place = 0; place < departed_count; place++) {
-        uint64_t left = departed[place].ends <= now() ? 0 : (departed[place].ends - now()) / 1000;
-        const struct prefix *prefix = &departed[place].prefix;
-        if (left == 0)
-            continue;
-        departed[kept++] = departed[place];
-        if (departed[place].link != link || is_assigned(link, prefix)
-            || find_info(room + HEAD, prefixes - HEAD, prefix) != NULL)
-            continue;
-        uint8_t *option = room + length;
-        memset(option, 0, INFO);
-        option[0] = PREFIX;
-        option[1] = INFO / 8;
-        option[2] = prefix->length;
-        option[3] = 0xc0;
-        put(option + 4, (uint32_t)left);
-        memcpy(option + 16, prefix->bits, 16);
-        length += INFO;
-    }
-    departed_count = kept;
-    return length;
-}
-
 /* Puts the hardware address of the link and the servers of names behind the options in the room. Returns the length. */
 static size_t add_options(const struct link *link, size_t length)
 {
@@ -265,18 +219,19 @@ static void advertise(struct link *link)
     size_t length = 0;
     it->earliest = it->next = now() + LEAST_BETWEEN;
     it->is_over = is_ending;
-    if (!tick() || !is_done(hn_router_advertise(&router, link->endpoint, &length, room, sizeof room - MOST_DEPARTED * INFO - 64),
+    if (!tick() || !is_done(hn_router_advertise(&router, link->endpoint, &length, room, sizeof room - MOST_OPTIONS),
                             "advertise"))
         return;
     bool is_full = length + INFO > MOST_PACKET;
     look(link);
     lower(length);
-    length = add_options(link, add_departed(link, length));
+    length = add_options(link, length);
     unsigned parts = send_parts(link, length);
     if (parts == 0)
         return;
     say(OF_ADVERT, "advertised %s bytes=%zu%s%s", link->name, length, parts > 1 ? " in parts" : "", is_ending ? " last" : "");
     it->has_sent = true;
+    look_at_state();
     it->earliest = now() + LEAST_BETWEEN;
     it->next = now() + interval(it, is_full);
 }

@@ -20,6 +20,9 @@ enum { MOST_BYTES = 65535, MOST_ADVERT = 2048, MOST_LINE = 256, MOST_SERVERS = 3
 /* The number under which the routes of the daemon stand in the system, as that of Babel is 42. */
 enum { ROUTE_PROTOCOL = 44 };
 
+/* In seconds: the most that hosts are told of a prefix (RFC 9096, section 3.4), unless an option says else. */
+enum { MOST_PREFERRED = 2700, MOST_VALID = 5400 };
+
 /* In milliseconds: so long it waits for memory, for another try of a route, and at most for anything. */
 enum { RETRY = 100, ROUTE_RETRY = 5000, LONGEST_WAIT = 3600000 };
 
@@ -80,8 +83,8 @@ struct arrival {
 /* What the options say. */
 struct settings {
     uint32_t id;
-    bool advertises, routes, forwards, answers_own_port, keeps_lifetimes, to_syslog;
-    const char *control, *command, *user;
+    bool has_id, advertises, routes, forwards, answers_own_port, keeps_lifetimes, to_syslog;
+    const char *control, *command, *user, *kept;
     uint64_t ends;
     struct delegation uplinks[MOST_PREFIXES];
     size_t uplink_count;
@@ -116,7 +119,7 @@ bool read_prefix(const char *text, struct prefix *it);
 bool read_delegation(const char *text, struct delegation *it);
 
 /* log.c: lines of one kind are limited to some in a second. */
-enum kind { OF_COMMAND, OF_STATE, OF_ASSIGNMENT, OF_LINK, OF_ROUTE, OF_ADVERT, OF_NOTE, OF_STRAY, OF_SEND, OF_CALL, KINDS };
+enum kind { OF_COMMAND, OF_STATE, OF_ASSIGNMENT, OF_LINK, OF_ROUTE, OF_ADVERT, OF_NOTE, OF_STRAY, OF_SEND, OF_FILE, OF_CALL, KINDS };
 void open_log(void);
 bool say(enum kind kind, const char *form, ...) __attribute__((format(printf, 2, 3)));
 int log_descriptor(void);
@@ -174,6 +177,7 @@ enum received take_datagram(void);
 uint64_t router_due(void);
 size_t read_used(hn_used list[MOST_USED]);
 const hn_assigned *assignments(size_t *count);
+bool is_assigned(const struct link *link, const struct prefix *prefix);
 void want_report(void);
 void report(void);
 
@@ -195,12 +199,27 @@ void write_addresses(void (*write)(FILE *, const struct link *, const uint8_t *,
 
 /* adverts.c */
 void begin_adverts(struct link *link);
-void remember_departed(struct link *link, const struct prefix *prefix);
+void tell_departed(struct link *link, const struct prefix *prefix, uint32_t valid);
 void watch_adverts(void);
 enum received take_neighbor(void);
 uint64_t adverts_due(void);
 void send_adverts(void);
 bool end_adverts(void);
+
+/* state.c: what is kept over a restart. */
+void read_state(void);
+void begin_state(void);
+void remember(const hn_assigned *it);
+void look_at_state(void);
+void follow_state(void);
+uint64_t state_due(void);
+void end_state(void);
+
+/* file.c: the file of -k. A call gives nothing, or why it is not done. */
+const char *read_file(bool (*take)(const char *line));
+bool is_writing(void);
+const char *begin_writing(void (*write_lines)(FILE *));
+bool has_written(const char **why);
 
 /* uplinks.c: prefixes that are delegated to this router. Each call gives nothing, or why it is not done. */
 const char *add_uplink(const struct delegation *it);

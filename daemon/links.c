@@ -116,7 +116,8 @@ static void settle(struct link *link, const struct seen *seen)
 }
 
 /* Drops all peers of a link that has no room for one more: some may be forged, and promise nothing, so that they would
- * stay for good. It costs what is assigned to the link. So it is done at most once in ten minutes. */
+ * stay for good. It costs what is assigned to the link, though that is preferred from then on. So it is done at most once in
+ * ten minutes. */
 static void drop_peers(struct link *link)
 {
     link->is_full = false;

@@ -31,7 +31,8 @@ static struct {
     [OF_ASSIGNMENT] = {.name = "assignment", .limit = 200}, [OF_LINK] = {.name = "link", .limit = 20},
     [OF_ROUTE] = {.name = "route", .limit = 50}, [OF_ADVERT] = {.name = "advert", .limit = 20},
     [OF_NOTE] = {.name = "note", .limit = 10}, [OF_STRAY] = {.name = "stray", .limit = 10},
-    [OF_SEND] = {.name = "send", .limit = 10}, [OF_CALL] = {.name = "call", .limit = 10},
+    [OF_SEND] = {.name = "send", .limit = 10}, [OF_FILE] = {.name = "file", .limit = 10},
+    [OF_CALL] = {.name = "call", .limit = 10},
 };
 
 /* How the lines go out: by write to a file or terminal that never waits, by write after a look, by send, or as messages. */

@@ -2,7 +2,8 @@
  *
  * The library decides. Here are the clock and the loop; log.c has the lines, links.c the interfaces, sockets.c what is sent
  * and what arrives, netlink.c what is asked of the system, routes.c addresses and routes, adverts.c Router Advertisements,
- * held.c replies that wait, commands.c and control.c the commands, uplinks.c the prefixes that are delegated here. */
+ * held.c replies that wait, commands.c and control.c the commands, uplinks.c the prefixes that are delegated here, state.c and
+ * file.c what is kept over a restart. */
 #include "hnd.h"
 
 #include <errno.h>
@@ -20,7 +21,8 @@ enum { INPUT, HNCP, NEIGHBORS, SIGNALS, SYSTEM, LOG, CONTROL, POLLED = CONTROL +
 
 static int signals = -1;
 
-/* Signals that end it are read as from a socket. Where nobody reads what is written, nothing ends. */
+/* Signals that end it are read as from a socket, and so is that of a process that has written the file of -k. Where nobody reads
+ * what is written, nothing ends. */
 static void open_signals(void)
 {
     sigset_t ends;
@@ -28,6 +30,7 @@ static void open_signals(void)
     sigaddset(&ends, SIGTERM);
     sigaddset(&ends, SIGINT);
     sigaddset(&ends, SIGHUP);
+    sigaddset(&ends, SIGCHLD);
     sigprocmask(SIG_BLOCK, &ends, NULL);
     signal(SIGPIPE, SIG_IGN);
     signals = signalfd(-1, &ends, SFD_CLOEXEC | SFD_NONBLOCK);
@@ -39,13 +42,16 @@ static void open_signals(void)
 static void take_signal(void)
 {
     struct signalfd_siginfo it;
-    is_told_to_end |= read(signals, &it, sizeof it) == sizeof it;
+    if (read(signals, &it, sizeof it) != sizeof it)
+        return;
+    is_told_to_end |= it.ssi_signo != SIGCHLD;
+    want_report();
 }
 
 /* Milliseconds until something is due, or until a moment. */
 static int wait_until(uint64_t until)
 {
-    uint64_t at = now(), dues[] = {router_due(), held_due(), links_due(), routes_due(), adverts_due(), log_due()};
+    uint64_t at = now(), dues[] = {router_due(), held_due(), links_due(), routes_due(), adverts_due(), state_due(), log_due()};
     until = earlier(until, at + LONGEST_WAIT);
     for (size_t place = 0; place < sizeof dues / sizeof dues[0]; place++)
         until = earlier(until, dues[place]);
@@ -98,7 +104,9 @@ static void turn(uint64_t until)
 /* Makes the router, and delegates to it what the options say. The links come with the first turn. */
 static void begin(void)
 {
+    read_state();
     begin_router();
+    begin_state();
     begin_routes();
     for (size_t place = 0; place < settings.uplink_count; place++) {
         const char *why = add_uplink(&settings.uplinks[place]);
@@ -116,6 +124,7 @@ static void finish(void)
     for (uint64_t until = were_some ? now() + LINGER : 0; now() < until;)
         turn(until);
     end_left();
+    end_state();
     report();
     while (!end_adverts())
         turn(adverts_due());

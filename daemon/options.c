@@ -50,6 +50,7 @@ static bool take_value(int option)
     uint32_t number;
     switch (option) {
     case 'c': settings.control = optarg; return true;
+    case 'k': settings.kept = optarg; return true;
     case 'u': settings.user = optarg; return true;
     case 'x': settings.command = optarg; return true;
     case 'd':
@@ -57,6 +58,7 @@ static bool take_value(int option)
             && inet_pton(AF_INET6, optarg, &settings.servers[settings.server_count++]) == 1;
     case 'i':
         settings.id = (uint32_t)strtoul(optarg, NULL, 16);
+        settings.has_id = true;
         return strlen(optarg) == 8 && strspn(optarg, "0123456789abcdefABCDEF") == 8;
     case 'p':
         return settings.uplink_count < MOST_PREFIXES && read_uplink(optarg, &settings.uplinks[settings.uplink_count++]);
@@ -73,7 +75,7 @@ static bool take_value(int option)
 void read_options(int count, char **words)
 {
     opterr = 0;
-    for (int option; (option = getopt(count, words, "+ac:d:fi:Lp:Prst:u:x:")) != -1;) {
+    for (int option; (option = getopt(count, words, "+ac:d:fi:k:Lp:Prst:u:x:")) != -1;) {
         const char unknown[] = {'-', (char)optopt, '\0'};
         if (option == '?' || (!take_flag(option) && !take_value(option)))
             fail(BAD_ARGUMENTS, option == '?' ? unknown : optarg, wanted(option));

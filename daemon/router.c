@@ -292,6 +292,16 @@ static const hn_assigned *find(const hn_assigned *list, size_t count, const hn_a
     return NULL;
 }
 
+/* Whether a prefix is assigned to a link, applied or not, as of the last report. */
+bool is_assigned(const struct link *link, const struct prefix *prefix)
+{
+    for (const hn_assigned *it = told.assigned; it < told.assigned + told.assigned_count; it++) {
+        if (it->endpoint == link->endpoint && it->length == prefix->length && memcmp(it->prefix, prefix->bits, 16) == 0)
+            return true;
+    }
+    return false;
+}
+
 /* Tells each assignment that went, that came, or that is applied now. There is no private link. */
 static void tell_assignments(void)
 {
@@ -305,8 +315,11 @@ static void tell_assignments(void)
     }
     for (const hn_assigned *it = list; it < list + count; it++) {
         const hn_assigned *before = find(told.assigned, told.assigned_count, it);
-        if (before == NULL || before->applied != it->applied)
-            tell_assigned("assigned", it);
+        if (before != NULL && before->applied == it->applied)
+            continue;
+        tell_assigned("assigned", it);
+        if (it->applied)
+            remember(it);
     }
     memcpy(told.assigned, list, count * sizeof list[0]);
     told.assigned_count = count;
@@ -322,11 +335,12 @@ void want_report(void)
  * are an event of their own. */
 void report(void)
 {
-    for (unsigned times = 0; times < 3 && (is_changed || earlier(routes_due(), untold) <= now()); times++) {
+    for (unsigned times = 0; times < 3 && (is_changed || earlier(earlier(routes_due(), state_due()), untold) <= now()); times++) {
         is_changed = false;
         tell_state();
         tell_assignments();
         follow_routes(told.assigned, told.assigned_count);
         watch_adverts();
+        follow_state();
     }
 }

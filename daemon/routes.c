@@ -122,7 +122,7 @@ static void drop(const struct set *it)
 {
     if (it->left_until != 0) {
         drop_addresses_in(it->link, &it->prefix);
-        remember_departed(it->link, &it->prefix);
+        tell_departed(it->link, &it->prefix, MOST_VALID);
     } else if (it->has_address)
         drop_address(it->link, it->address, it->prefix.length);
     drop_route(it->link, &it->prefix);

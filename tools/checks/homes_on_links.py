@@ -134,11 +134,12 @@ class Router:
         self.links = [link for link, members in enumerate(home.members) if number in members]
         self.socket = os.path.join(home.folder, f'{home.name}-{number}.sock')
         self.log = os.path.join(home.folder, f'{home.name}-{number}.log')
+        self.options = []
         self.daemon = self.babel = None
 
     def start(self, output=None, commands=None):
         words = ['ip', 'netns', 'exec', self.space, self.home.tools.daemon, '-arf', '-c', self.socket, '-i', f'{self.number:08x}',
-                 *self.home.tools.options, *(f'l{link}' for link in self.links)]
+                 *self.options, *self.home.tools.options, *(f'l{link}' for link in self.links)]
         with open(self.log, 'ab') as log:
             self.daemon = subprocess.Popen(words, stdin=commands or subprocess.DEVNULL, stdout=output or log, stderr=log)
         if self.home.tools.babel and self.babel is None:

@@ -152,10 +152,16 @@ const char *begin_writing(void (*write_lines)(FILE *))
 /* Whether the process that writes has ended; if so, whether it is done, or why not. */
 bool has_written(const char **why)
 {
-    int status;
-    if (writer == 0 || waitpid(writer, &status, WNOHANG) != writer)
+    int status = 0;
+    pid_t ended = writer == 0 ? 0 : waitpid(writer, &status, WNOHANG);
+    if (ended == 0)
         return false;
     writer = 0;
-    *why = !WIFEXITED(status) ? "its process was killed" : WEXITSTATUS(status) != 0 ? strerror(WEXITSTATUS(status)) : NULL;
+    if (ended < 0)
+        *why = strerror(errno);
+    else if (!WIFEXITED(status))
+        *why = "its process was killed";
+    else
+        *why = WEXITSTATUS(status) == 0 ? NULL : strerror(WEXITSTATUS(status));
     return true;
 }

@@ -135,10 +135,11 @@ class Story:
         self.home.run(self.chance.choice((1, 5, 20, 45)))
 
     def mixed(self):
-        """Ten things at random."""
+        """Ten things at random. One router runs at the end."""
         for _ in range(10):
             self.chance.choice((self.restart, self.off, self.on, self.cut, self.plug_in, self.move, self.uplink, self.again, self.wait, self.wait,
                                 functools.partial(self.loss, 10), functools.partial(self.deaf, 10), functools.partial(self.late, 5)))()
+        self.runner()
 
     def on(self):
         self.home.start(self.chance.choice(self.home.routers))
@@ -191,7 +192,7 @@ def made(*lines):
     return bytes.fromhex(done.stdout.decode('ascii').strip())
 
 
-# Of each history: what happens, and of how many seeds one is played, since large homes take long.
+# Of each history: what happens, what it is made of, and of how many seeds one is played, since some take long.
 HISTORIES = {
     'start': ('all routers begin', (), 1),
     'restart': ('one router restarts', (Story.settle, Story.restart), 1),
@@ -202,14 +203,14 @@ HISTORIES = {
     'move': ('a cable is moved', (Story.settle, Story.move), 1),
     'uplink': ('a prefix comes or goes', (Story.settle, Story.uplink), 1),
     'loss': ('30 % of copies lost, 60 s', (Story.loss,), 1),
-    'deaf': ('one is not heard, 50 s', (Story.settle, Story.deaf), 1),
-    'late': ('copies up to 20 s late', (Story.late,), 1),
-    'mixed': ('ten of these at random', (Story.settle, Story.mixed), 1),
-    'forged': ('a stranger forges', (Story.settle, Story.forged), 1),
+    'deaf': ('one is not heard, 50 s', (Story.settle, Story.deaf), 5),
+    'late': ('copies up to 20 s late', (Story.late,), 5),
+    'mixed': ('ten of these at random', (Story.settle, Story.mixed), 5),
+    'forged': ('a stranger forges', (Story.settle, Story.forged), 5),
     'link-4': ('4 begin on one link', 4, 1),
-    'link-16': ('16 begin on one link', 16, 5),
-    'link-32': ('32 begin on one link', 32, 20),
-    'link-48': ('48 begin on one link', 48, 50),
+    'link-16': ('16 begin on one link', 16, 20),
+    'link-32': ('32 begin on one link', 32, 50),
+    'link-48': ('48 begin on one link', 48, 100),
 }
 
 
@@ -228,6 +229,6 @@ def played(history, seed):
     return story.home
 
 
-def seeds_of(history, seeds):
-    """Those of the seeds with which a history is played."""
-    return [seed for seed in seeds if seed % HISTORIES[history][2] == 0]
+def seeds_of(history, first, count):
+    """Of so many seeds those with which a history is played: the first ones."""
+    return range(first, first + max(1, count // HISTORIES[history][2]))

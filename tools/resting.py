@@ -57,10 +57,14 @@ def outcome(case):
         raise rulercress.Problem(problem) from None
 
 
-def played(cases, processes):
-    """What each case, a history and a seed, comes to, in order."""
+def played(history, seeds, processes):
+    """What the homes of a history come to, by history and seed."""
+    cases = [(history, seed) for seed in seeds]
     try:
         return dict(zip(cases, rulercress.many(lambda place: outcome(cases[place]), range(len(cases)), processes)))
+    except rulercress.SeedsFailed as failed:
+        place, text = next(iter(failed.failures.items()))
+        raise Problem('{} {}: {}'.format(*cases[place], text)) from None
     except rulercress.Problem as problem:
         raise Problem('{} {}: {}'.format(*told_case(cases, str(problem)))) from None
 
@@ -68,7 +72,14 @@ def played(cases, processes):
 def told_case(cases, text):
     """The history and the seed of the case whose place stands before a text, and the text."""
     found = re.fullmatch(r'seed (\d+): (.*)', text, re.DOTALL)
-    return (*cases[int(found[1])], found[2]) if found else ('homes', 'of all seeds', text)
+    return (*cases[int(found[1])], found[2]) if found else (cases[0][0], 'of each seed', text)
+
+
+def told(found, is_each):
+    """Writes a line for each home, if these are wanted, and gives what the homes come to."""
+    for (history, seed), text in found.items() if is_each else ():
+        print(history, seed, text, flush=True)
+    return found
 
 
 def script_of(history, seed):
@@ -148,14 +159,12 @@ def main(about):
     if words.join:
         found = joined(words.join)
     else:
-        seeds = range(words.first, words.first + words.count)
-        seeds = common.part_of(seeds, words.shard, given) if words.shard else seeds
-        cases = [(name, seed) for name in dict.fromkeys(names) for seed in histories.seeds_of(name, seeds)]
-        found = played(cases, words.processes)
+        found = {}
+        for name in dict.fromkeys(names):
+            seeds = histories.seeds_of(name, words.first, words.count)
+            seeds = common.part_of(seeds, words.shard, given) if words.shard else seeds
+            found.update(told(played(name, seeds, words.processes), words.each or words.shard))
     if words.each or words.shard:
-        for (name, seed), text in found.items():
-            print(name, seed, text)
         print()
     for text in lines_of(found):
         print(text)
-

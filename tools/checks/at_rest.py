@@ -6,7 +6,8 @@ import common
 from checks.helpers import lines_of, must, must_be, need_look, run
 
 PLAYED = ('start', 'restart', 'off', 'power-cut', 'move', 'loss', 'deaf', 'late', 'mixed', 'forged')
-SEEDS = ['--from', '301', '-n', '2']
+QUICK = ('start', 'power-cut', 'move')
+SEED = '301'
 LONG = 150
 
 
@@ -42,22 +43,28 @@ def check_at_rest(folder):
     """Held to: plays by the check that ask after each round, of a home with each kind of history; the texts of parts, joined,
     are the text of the whole; least, median and most are those of the lines of homes."""
     need_look()
-    whole = lines_of('how-soon-at-rest', *SEEDS, '--each', '--only', *PLAYED)
-    each = [line.split() for line in whole[:whole.index('')]]
-    must_be([(words[0], words[1]) for words in each], [(history, seed) for history in PLAYED for seed in ('301', '302')], 'homes')
-    for history, seed, text in each[::2]:
-        check_home(history, seed, text)
+    told = [line.split() for line in lines_of('how-soon-at-rest', '--from', SEED, '-n', '1', '--each', '--only', *PLAYED)]
+    told = told[:told.index([])]
+    must_be([words[:2] for words in told], [[history, SEED] for history in PLAYED], 'homes')
+    for words in told:
+        check_home(*words)
+    return f'{len(told)} homes with {len(PLAYED)} histories, asked after each round; {check_parts(folder)} homes in parts'
+
+
+def check_parts(folder):
+    """Parts, joined, are the whole, and its rows are those of its homes. How many homes there are."""
+    words = ['--from', SEED, '-n', '3', '--only', *QUICK]
+    whole = lines_of('how-soon-at-rest', *words, '--each')
+    each, table = [line.split() for line in whole[:whole.index('')]], whole[whole.index('') + 1:]
     paths = [os.path.join(folder, f'part{part}') for part in (1, 2)]
     for part, path in enumerate(paths, 1):
         with open(path, 'w', encoding='ascii') as file:
-            file.write('\n'.join([*lines_of('how-soon-at-rest', *SEEDS, '--shard', f'{part}/2', '--only', *PLAYED), '']))
-    table = whole[whole.index('') + 1:]
+            file.write('\n'.join([*lines_of('how-soon-at-rest', '--shard', f'{part}/2', *words), '']))
     must_be(lines_of('how-soon-at-rest', '--join', *paths), table, 'how-soon-at-rest --join')
     status, _, messages = run('how-soon-at-rest', '--join', paths[0], paths[0])
     must(status == 1 and 'as a file before it' in messages, f'a part that is given twice: status {status}, {messages}')
-    for history, line in zip(PLAYED, table[-len(PLAYED):]):
-        both = sorted((text for name, _, text in each if name == history), key=lambda text: float(text.replace('never', 'inf')))
-        told = line.split()[-7:]
-        must_be([line.split()[0], told[0], told[6]], [history, '2', str(both.count('never'))], 'row')
-        must_be([told[1], told[2], told[5]], [text.replace('never', '-') for text in (both[0], both[0], both[1])], f'row of {history}')
-    return f'{len(each)} homes with {len(PLAYED)} histories, of which {len(each[::2])} are asked after each round, two parts joined'
+    for history, line in zip(QUICK, table[-len(QUICK):]):
+        texts = sorted((text for name, _, text in each if name == history), key=float)
+        cells = line.split()
+        must_be([cells[0], *cells[-7:]], [history, '3', texts[0], texts[1], *[texts[2]] * 3, '0'], f'row of {history}')
+    return len(each)

@@ -6,6 +6,7 @@ PLACE = re.compile(r'`(\S+\.(?:rt|antt)): ([^`]+)`$')
 ROW = re.compile(r'\| `(\S+/specs)` \| (.*) \|$')
 FILE = re.compile(r'=== (\S+\.antt)$')
 HEAD = re.compile(r'(?:abbrev pub|unfoldable pub|abbrev|pub record|pub data|record|data|pub) ([^\s:]+)')
+NAMED = re.compile(r'\.\.\. (\S+): .* \((\S+\.antt)\)$')
 CLAUSE = re.compile(r'ensures (\w+) ')
 
 
@@ -47,10 +48,19 @@ def _definitions(lines: List[str]) -> Iterator[Tuple[str, str]]:
         heads = [HEAD.match(line) for line in text.split('\n') if not line.startswith('--')]
         if begins:
             file = begins.group(1)
+        elif NAMED.match(text.split('\n')[0]):
+            yield from _named(text.split('\n'))
         elif heads and heads[0]:
             yield '%s: %s' % (file, heads[0].group(1)), text
         else:
             yield '%s: what is no definition' % file, text
+
+
+def _named(lines: List[str]) -> Iterator[Tuple[str, str]]:
+    """The sentences for definitions that are named and not shown, each by the file and the name of its definition."""
+    for line in lines:
+        named = NAMED.match(line)
+        yield ('%s: the sentence for %s' % (named.group(2), named.group(1)) if named else 'what is no sentence'), line
 
 
 def _in_block(file: str, names: str, lines: List[str]) -> Iterator[Tuple[str, str]]:

@@ -1,7 +1,7 @@
-"""Makes the page with the headline: its clauses, the signs, the definitions, and the counts."""
+"""Makes the page with the headline: the words, its clauses, the signs, the types, the definitions, and the counts."""
 import hashlib
 import os
-from itertools import groupby
+from itertools import groupby, takewhile
 from typing import Dict, Iterable, Iterator, List, Set, Tuple
 
 import headline_text as text
@@ -14,10 +14,10 @@ FILE = 'hn_run/src/program.rt'
 FUNCTION = 'run'
 HALVES = ('headline', 'settled')
 """The clauses that the page is about: their definitions are shown, listed and counted."""
-BESIDE = ('replayed', 'elected', 'told', 'stays', 'within_limits', 'authentic')
+BESIDE = ('replayed', 'elected', 'told', 'stays', 'turns', 'within_limits', 'authentic')
 """The clauses that are shown beside them."""
-ALONE = ('lab',)
-"""The clauses that are shown beside them, without the others of their paragraph."""
+ALONE = ('lab', 'only')
+"""The clauses that are shown beside them, without the others and the comment of their paragraph."""
 CLAUSES = HALVES + BESIDE + ALONE
 OVER_TIME = ('hn_world/specs/Replay.antt: Always', 'hn_world/specs/Replay.antt: Throughout')
 """The definitions that say of which worlds a half is said. What is said of one world does not rest on them."""
@@ -96,7 +96,7 @@ class Headline:
             ('`settled`, of one world', list(steps(self.seeds(HALVES[1:], OVER_TIME)))),
             ('both, of one world', list(self.of_one_world)),
             ('both, with how a world comes about', list(self.with_worlds)),
-            ('these nine clauses', list(steps(self.seeds(CLAUSES)))),
+            ('these eleven clauses', list(steps(self.seeds(CLAUSES)))),
             ('all clauses of `run`', list(steps(self.seeds(self.contract.clauses)))),
         ]
 
@@ -104,6 +104,28 @@ class Headline:
         """The definitions that the shown clauses and definitions name, and that are not shown."""
         found = set(self.seeds(CLAUSES)).union(*map(self.sources.cites, self.shown))
         return sorted(node for node in found if not node.is_type and node not in self.shown)
+
+    def first_named(self) -> Tuple[List[Node], Dict[Node, List[Node]]]:
+        """Those definitions where they are named first: by the clauses, and by each shown definition."""
+        left = dict.fromkeys(self.named())
+        return self._taken(left, self.seeds(CLAUSES)), {
+            node: self._taken(left, self.sources.cites(node)) for node in self.shown}
+
+    @staticmethod
+    def _taken(left: Dict[Node, None], named: List[Node]) -> List[Node]:
+        found = [node for node in dict.fromkeys(named) if node in left]
+        for node in found:
+            del left[node]
+        return found
+
+    def gloss(self, node: Node) -> str:
+        """What a definition that is not shown says, in one sentence: of the page, or its comment."""
+        shown = self.sources.entity(node).shown
+        comment = [line[2:].strip() for line in takewhile(lambda line: line.startswith('--'), shown)]
+        said = text.GLOSSES.get(node.place) or ' '.join(comment).rstrip('.')
+        if not said:
+            raise NotFound('a comment of %s, or a sentence for it in checks/headline_text.py' % node.place)
+        return said[:1].lower() + said[1:]
 
     def signs(self) -> Iterator[Tuple[str, str]]:
         """Each sign and each word of the kit that the page shows, with the place at which it stands."""
@@ -162,59 +184,67 @@ def mark(lines: Iterable[str]) -> str:
 
 
 def _clauses(found: Headline) -> List[str]:
-    """The paragraphs of the contract that the clauses stand in, and of those of some clauses the comment and the clause."""
+    """The paragraphs of the contract that the clauses stand in, and of those of some clauses the clause."""
     paragraphs: List[List[str]] = []
     for name in HALVES + BESIDE:
         if found.contract.paragraph(name) not in paragraphs:
             paragraphs.append(found.contract.paragraph(name))
-    paragraphs += [found.contract.comment(name) + found.contract.clauses[name] for name in ALONE]
+    paragraphs += [found.contract.clauses[name] for name in ALONE]
     lines = ['`%s: %s`' % (found.file, FUNCTION), '```text']
     for paragraph in paragraphs:
         lines += [line[4:] for line in paragraph] + ['']
-    return lines[:-1] + ['```', '']
+    named = ['- `%s`: %s (`%s`).' % (node.name, found.gloss(node), node.file) for node in found.first_named()[0]]
+    return lines[:-1] + ['```', '', text.NAMED, ''] + named + ['']
 
 
 def _definitions(found: Headline) -> List[str]:
-    """A block of the definitions. Before those of one file that follow each other their file is named."""
+    """The definitions, in blocks. A block begins with the sentences for its first definition."""
+    blocks: List[List[Node]] = [[]]
+    for node in found.shown:
+        if node.place in text.SENTENCES:
+            blocks.append([])
+        blocks[-1].append(node)
+    named = found.first_named()[1]
+    lines: List[str] = []
+    for nodes in filter(None, blocks):
+        lines += [text.SENTENCES[nodes[0].place], ''] if nodes[0].place in text.SENTENCES else []
+        lines += _block(found, nodes, named)
+    return lines
+
+
+def _block(found: Headline, shown: List[Node], named: Dict[Node, List[Node]]) -> List[str]:
+    """A block of definitions. Before those of one file that follow each other their file is named. After each stand those
+    that it is the first to name and that are not shown, with a sentence and their file."""
     lines: List[str] = ['```text']
-    for file, nodes in groupby(found.shown, lambda node: node.file):
+    for file, nodes in groupby(shown, lambda node: node.file):
         lines += ['=== %s' % file, '']
         for node in nodes:
             lines += found.sources.entity(node).shown + ['']
+            lines += ['... %s: %s (%s)' % (other.name, found.gloss(other), other.file) for other in named[node]]
+            lines += [''] if named[node] else []
     return lines[:-1] + ['```', '']
 
 
 def _types(found: Headline) -> List[str]:
     """The types that are shown, each with its fields and what contracts see of it."""
     lines: List[str] = ['```text']
-    for file, name in text.TYPES.items():
-        node = Node(file, name)
-        if node not in found.of_one_world:
-            raise NotFound('%s, which checks/headline_text.py names, of the types' % node.place)
-        lines += ['=== %s' % file, ''] + found.sources.entity(node).code + ['']
+    for file, names in text.TYPES:
+        lines += ['=== %s' % file, '']
+        for name in names.split():
+            node = Node(file, name)
+            if node not in found.of_one_world:
+                raise NotFound('%s, which checks/headline_text.py names, of the types' % node.place)
+            lines += found.sources.entity(node).code + ['']
     return lines[:-1] + ['```', '']
 
 
-def _place(nodes: List[Node]) -> str:
-    """The place of several definitions of one file."""
-    return '%s: %s' % (nodes[0].file, ', '.join(node.name for node in nodes))
-
-
-def _places(nodes: List[Node]) -> str:
-    """The places of definitions, by their files."""
-    return '; '.join('`%s`' % _place(list(group)) for _, group in groupby(nodes, lambda node: node.file)) + '.'
-
-
 def _others(found: Headline) -> List[str]:
-    """A row for each crate: of each file its lines that are listed, their mark, and what the shown text names of it."""
-    named = found.named()
+    """A row for each crate: of each file its lines that are listed, and their mark."""
     rows: Dict[str, List[str]] = {}
     for file, nodes in groupby(sorted(found.listed), lambda node: node.file):
         lines = [line for node in nodes for line in found.sources.entity(node).code]
-        names = ', '.join(node.name for node in named if node.file == file)
         folder, name = os.path.split(file)
-        row = '%s %d %s' % (name[:-len('.antt')], len(lines), mark(lines))
-        rows.setdefault(folder, []).append(row + (' (%s)' % names if names else ''))
+        rows.setdefault(folder, []).append('%s %d %s' % (name[:-len('.antt')], len(lines), mark(lines)))
     table = ['| `%s` | %s |' % (folder, '; '.join(files)) for folder, files in rows.items()]
     return ['| Folder | Files |', '|---|---|'] + table + ['']
 
@@ -242,14 +272,22 @@ def _counts(found: Headline) -> List[str]:
     return table + ['']
 
 
+def check_choices(found: Headline) -> None:
+    """Each sentence of the page is for a definition that is shown, or for one that is named and not shown."""
+    choices = ((text.SENTENCES, found.shown, 'of those shown'), (text.GLOSSES, found.named(), 'of those named'))
+    for sentences, nodes, what in choices:
+        for place in sorted(set(sentences) - {node.place for node in nodes}):
+            raise NotFound('%s, which checks/headline_text.py names, %s' % (place, what))
+
+
 def page(sources: Sources) -> str:
     """The page, from the sources."""
     found = Headline(sources)
+    check_choices(found)
     lines = [text.BEGINNING, '## The clauses', '', text.CLAUSES, ''] + _clauses(found)
     lines += ['## The signs', '', text.SIGNS, '', '| Sign | Says |', '|---|---|'] + key(found) + ['']
-    lines += ['## The definitions', '', text.DEFINITIONS, ''] + _definitions(found)
     lines += ['## The types', '', text.TYPES_SAY, ''] + _types(found)
-    lines += ['## The others', '', text.OTHERS, ''] + _others(found)
-    lines += [text.FARTHER + ' ' + _places([node for node in found.named() if node not in found.listed]), '']
+    lines += ['## The definitions', '', text.DEFINITIONS, ''] + _definitions(found)
+    lines += [text.QUESTIONS, '## The others', '', text.OTHERS, ''] + _others(found)
     lines += ['## The counts', '', text.COUNTS, ''] + _counts(found)
     return '\n'.join(lines).rstrip('\n') + '\n'

@@ -287,7 +287,7 @@ class OfThisRepository(unittest.TestCase):
     def test_a_change_of_a_far_definition_is_seen(self) -> None:
         """One sign of a definition that is neither shown nor listed: the mark of a count tells it."""
         self.change('hn_lab/specs/Lab.antt', 'status_of WireFailed = 5', 'status_of WireFailed = 6')
-        self.assertTrue(self.differs().startswith('the section "The counts" changed: | these nine clauses | '))
+        self.assertTrue(self.differs().startswith('the section "The counts" changed: | these eleven clauses | '))
 
     def test_a_choice_that_chooses_nothing_is_refused(self) -> None:
         """A definition that the page leaves out, or shows of a clause that stands alone, and that is not of it."""
@@ -296,16 +296,41 @@ class OfThisRepository(unittest.TestCase):
                 with self.assertRaisesRegex(NotFound, 'hn_typed/specs/Item.antt: IsNowhere, which checks/headline_text.py'):
                     page(self.sources)
 
-    def test_each_definition_that_is_left_out_is_pointed_to(self) -> None:
-        """What the shown text names is shown, or stands after it with its file."""
-        after = self.page.split('## The others', 1)[1]
-        for node in self.headline.named():
-            folder, file = os.path.split(node.file)
-            row = next((line for line in after.split('\n') if line.startswith('| `%s` |' % folder)), '')
-            listed = re.search(r'\b%s \d+ \w+ \(([^)]*)\)' % file[:-len('.antt')], row)
-            told = re.search(r'`%s: ([^`]*)`' % re.escape(node.file), after)
-            names = [name for found in (listed, told) if found for name in found.group(1).split(', ')]
-            self.assertIn(node.name, names)
+    def test_a_sentence_for_nothing_is_refused(self) -> None:
+        """A sentence for a definition that is not shown, or not named; and a type that is not one of those named."""
+        for choice in (headline_text.SENTENCES, headline_text.GLOSSES):
+            with mock.patch.dict(choice, {'hn_typed/specs/Item.antt: IsNowhere': 'nothing'}):
+                with self.assertRaisesRegex(NotFound, 'hn_typed/specs/Item.antt: IsNowhere, which checks/headline_text.py'):
+                    page(self.sources)
+        with mock.patch.object(headline_text, 'TYPES', (('hn_assign/src/assigned.rt', 'Wish'),)):
+            with self.assertRaisesRegex(NotFound, 'hn_assign/src/assigned.rt: Wish, which checks/headline_text.py'):
+                page(self.sources)
+
+    def test_each_definition_that_is_left_out_has_a_sentence(self) -> None:
+        """What the shown text names and does not show has one sentence and its file, where it is named first."""
+        sentences = re.findall(r'^(?:\.\.\.|-) `?([^\s`]+?)`?: [^\n]{8,} \(`?([^\s`]+\.antt)`?\)\.?$', self.page, re.MULTILINE)
+        self.assertEqual(sorted((file, name) for name, file in sentences), self.headline.named())
+        before = self.page.split('... HasAssignment: ', 1)[0]
+        self.assertIn('HasAssignment', before.split('pub record Rests ', 1)[1])
+        self.assertNotIn('HasAssignment', before.split('pub record Rests ', 1)[0])
+
+    def test_a_definition_without_a_sentence_is_refused(self) -> None:
+        """One that is named and not shown, which has no comment and no sentence of the page."""
+        comment = '-- a router holds of another exactly its sequence number and its node data'
+        self.change('hn_audit/specs/Settled.antt', '\n%s\npub record HoldsState' % comment, '\npub record HoldsState')
+        with self.assertRaisesRegex(NotFound, 'a comment of hn_audit/specs/Settled.antt: HoldsState, or a sentence'):
+            page(Sources(self.root))
+
+    def test_a_changed_sentence_is_named(self) -> None:
+        """A comment of a definition that is named and not shown: its first line is its sentence."""
+        self.change('hn_audit/specs/Settled.antt', '-- a router holds of another exactly', '-- a router holds of another')
+        self.assertEqual(self.differs(), 'hn_audit/specs/Settled.antt: the sentence for HoldsState changed')
+
+    def test_types_and_words_come_first(self) -> None:
+        """The order of the page: what the definitions use stands before them."""
+        heads = re.findall('^## (.*)$', self.page, re.MULTILINE)
+        self.assertEqual(heads, ['The program', 'The words', 'The clauses', 'The signs', 'The types', 'The definitions',
+                                 'Questions that readers asked', 'The others', 'The counts'])
 
     def test_a_changed_comment_of_a_shown_definition_is_named(self) -> None:
         """The comment above a definition is a part of the page."""

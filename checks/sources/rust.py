@@ -137,11 +137,6 @@ class Contract:
         """The paragraph that a clause stands in, with its comment and the clauses beside it."""
         return self.paragraphs[self._paragraph_of[name]]
 
-    def comment(self, name: str) -> List[str]:
-        """The comment with which the paragraph of a clause begins."""
-        paragraph = self.paragraph(name)
-        return paragraph[:next(at for at, line in enumerate(paragraph) if not line.lstrip().startswith('//'))]
-
     def cited(self, name: str) -> Iterator[Cited]:
         """The names that a clause cites."""
         text = '\n'.join(self.clauses[name]).split('{', 1)[1].rsplit('}', 1)[0]

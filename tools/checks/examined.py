@@ -28,7 +28,7 @@ TOGETHER = 24            # devices that are examined at once: each waits for mos
 TRIES = 4                # how often a faulty device is examined until it is found: on a busy machine it may not come to answer
 BESIDE = 5               # other examinations of the same subject that a faulty device is put to
 WHOLE = 'EXAMINE_WHOLE'  # in the environment: a faulty device is put to all examinations of its subject
-SLACK = '5000'           # milliseconds that moments may be off: a busy machine lets a device send late
+SLACK = '20000'          # milliseconds that moments may be off for judge: on a busy machine datagrams were seconds late
 PATIENCE = 1200          # seconds after which an examination is given up
 MIDDLE = '7fff0001'      # an identifier that others can be below and above
 # What a row of docs/RFC.md may say `no` of, by its words, and the examination that fails then.

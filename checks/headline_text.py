@@ -44,7 +44,7 @@ ALONE = {
 
 BEGINNING = '''# The headline on one page
 
-For a reader who knows HNCP and doubts the claim. The program `hncp` calls one function, `run`, which is proved to keep a list of clauses. Here are eleven of the clauses, and the definitions that say what they claim. [ASSURANCE](ASSURANCE.md) has them in words, and what they do not say. It is meant to be read up to "The others", in half an hour.
+For a reader who knows HNCP and doubts the claim. The program `hncp` calls one function, `run`, which is proved to keep a list of clauses. Here are eleven of the clauses, and the definitions that say what they claim. [ASSURANCE](ASSURANCE.md) has them in words, and what they do not say. Up to "The others" it takes an hour; a first reading may leave out "Transcripts", the items of TLVs, and the clauses `lab` and `only`.
 
 `checks/headline --write` makes the page from the sources. `checks/headline` fails where a clause, a definition or a count differs, and names the first.
 

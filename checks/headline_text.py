@@ -157,8 +157,8 @@ A Router Advertisement has only prefixes of assignments that are applied: `hn_ro
 GLOSSES = {
     'hn_audit/specs/Laws.antt: ElectAlike':
         'on a link of the set all routers see the same one elected for each capability, or all see nobody',
-    'hn_audit/specs/Quiet.antt: IsQuiet': 'as IsQuiet above, in the words of `audit`',
-    'hn_audit/specs/Settled.antt: IsSettled': 'as IsSettled above, in the words of `audit`',
+    'hn_audit/specs/Quiet.antt: IsQuietByRules': 'as IsQuiet above, as the rules find it',
+    'hn_audit/specs/Settled.antt: IsSettledByRules': 'as IsSettled above, as the rules find it',
     'hn_base/specs/Key.antt: IsAbove': 'the first key is greater than the second, in the order above',
     'hn_audit/specs/Lasting.antt: IsLastingHome':
         'until a moment no delegated prefix of one of the set ends, no lifetime that one of them sees, and node data are young; '

@@ -1,31 +1,31 @@
 -- The routers of a settled set are sound alike.
 use Rattle.hn_base.proofs.Names.{◌≡◌, ◌↔◌, List, Contains, inl, inr, sym, subst, PlainPrefix}
-use Rattle.hn_audit.proofs.Names.{NodeId, EpId, Delegated, prefixes_of, UsableIsUnique, seen_by, Member, Parts, IsReached, UseSame, Uses, Link, Joint, IsThere, IsServedLink, IsWithout, IsHeldOn}
-use Rattle.hn_audit.proofs.Names.{IsSound}
+use Rattle.hn_audit.proofs.Names.{NodeId, EpId, Delegated, prefixes_of, UsableIsUnique, seen_by, Member, Parts, IsReached, UseSame, UsesByRules, Link, Joint, IsThereByRules, IsServedLink, IsWithout, IsHeldOn}
+use Rattle.hn_audit.proofs.Names.{IsSoundByRules}
 use Rattle.hn_audit.proofs.BridgeSets.{IsKnown, itself, reach_is}
 
 -- where one router uses what the other uses, it uses each prefix that the other uses
 uses_too : (unique : UsableIsUnique) (r s : Member) (d : PlainPrefix)
-    → UseSame r.router s.router → Uses r.router d → Uses s.router d
+    → UseSame r.router s.router → UsesByRules r.router d → UsesByRules s.router d
 uses_too unique r s d same uses =
     let one = subst (λ (list : List Delegated). Contains (prefixes_of list) d) (unique (seen_by r.router) uses.usable same.one uses.are_usable same.is_one) uses.there in
     record { usable = same.other; are_usable = same.is_other; there = subst (λ (ps : List PlainPrefix). Contains ps d) same.same.prefixes one }
 
 -- of two routers that reach the same and use the same
 module _ (w : Parts) (r s : Member) (reach : s.router.reach ≡ r.router.reach)
-    (uses_to : (d : PlainPrefix) → Uses r.router d → Uses s.router d) (uses_from : (d : PlainPrefix) → Uses s.router d → Uses r.router d) where
+    (uses_to : (d : PlainPrefix) → UsesByRules r.router d → UsesByRules s.router d) (uses_from : (d : PlainPrefix) → UsesByRules s.router d → UsesByRules r.router d) where
   reached_from : (m : Member) → IsReached w s m → IsReached w r m
   reached_from m h = record { runs = h.runs; reached = subst (λ (ids : List NodeId). Contains ids m.router.id) reach h.reached }
 
   reached_to : (m : Member) → IsReached w r m → IsReached w s m
   reached_to m h = record { runs = h.runs; reached = subst (λ (ids : List NodeId). Contains ids m.router.id) (sym reach) h.reached }
 
-  there_from : (link : Link) (m : Member) (e : EpId) → IsThere w s link m e → IsThere w r link m e
+  there_from : (link : Link) (m : Member) (e : EpId) → IsThereByRules w s link m e → IsThereByRules w r link m e
   there_from link m e h =
       let set = h.of_set in
       record { runs = h.runs; on_link = h.on_link; of_set = record { router = set.router; reached = reached_from set.router set.reached; post = set.post; on_link = set.on_link } }
 
-  there_to : (link : Link) (m : Member) (e : EpId) → IsThere w r link m e → IsThere w s link m e
+  there_to : (link : Link) (m : Member) (e : EpId) → IsThereByRules w r link m e → IsThereByRules w s link m e
   there_to link m e h =
       let set = h.of_set in
       record { runs = h.runs; on_link = h.on_link; of_set = record { router = set.router; reached = reached_to set.router set.reached; post = set.post; on_link = set.on_link } }
@@ -59,7 +59,7 @@ module _ (w : Parts) (r s : Member) (reach : s.router.reach ≡ r.router.reach)
     prefix = is.prefix;
   }
 
-  sound_too : IsSound w r → IsSound w s
+  sound_too : IsSoundByRules w r → IsSoundByRules w s
   sound_too is = record {
     inside = λ m c m_in held. let both = is.inside m c (reached_from m m_in) held in (uses_to c.delegated both.0, both.1);
     each_link = λ link m e d there uses. elim (is.each_link link m e d (there_from link m e there) (uses_from d uses)) [
@@ -71,7 +71,7 @@ module _ (w : Parts) (r s : Member) (reach : s.router.reach ≡ r.router.reach)
   }
 
 pub sound_alike : (unique : UsableIsUnique) (w : Parts) (r : Member) → IsKnown w r
-    → IsSound w r ↔ ((s : Member) → IsReached w r s → IsSound w s)
+    → IsSoundByRules w r ↔ ((s : Member) → IsReached w r s → IsSoundByRules w s)
 sound_alike unique w r known = (
   λ is s s_in.
       let r_in = itself w r known in

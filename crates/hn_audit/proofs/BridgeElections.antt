@@ -2,7 +2,7 @@
 use Rattle.hn_base.proofs.Names.{◌≡◌, ◌∙◌, ◌<◌, nat_lt, ℕ, Bool, List, Option, Some, None, Contains, filter, inl, inr, refl, sym, ap, subst, rules, IsTotalOrder, comparing, list_any, on, nat_cmp}
 use Rattle.hn_base.proofs.Names.{Less, and_from, and_parts, eqb-true, eq-eqb, lt-ltb, ltb-true, on_total, then_total, nat_cmp_total, same_Some, IsExact, PlainCaps, plain_caps}
 use Rattle.hn_audit.proofs.Names.{◌==◌, ◌&&◌, same_node, NodeId, EpId, HasItems, ItemsAreUnique, version_of, Delegated, IsCommonLink, IsOnCommonLink, seen_by, IsOnLinkOf, CommonLinkIsExact, Member}
-use Rattle.hn_audit.proofs.Names.{Parts, IsReached, Link, IsThere, in_filter, from_filter, any_of, any_from}
+use Rattle.hn_audit.proofs.Names.{Parts, IsReached, Link, IsThereByRules, in_filter, from_filter, any_of, any_from}
 use Rattle.std.specs.Option.{MatchOption}
 use Rattle.std.specs.declared.cmp.Ordering.{Ordering}
 use Rattle.hn_base.proofs.AscendingLists.{exact_nat, exact_then}
@@ -54,7 +54,7 @@ module _ (w : Parts) (r : Member) (usable : List Delegated) (case : IsCase w r u
   -- ---- the Common Link
 
   -- an endpoint has a Common Link
-  has_common : (link : Link) (s : Member) (e : EpId) → IsThere w r link s e → (common : List (NodeId × EpId)) × IsCommonLink (seen_by s.router) e.0 common
+  has_common : (link : Link) (s : Member) (e : EpId) → IsThereByRules w r link s e → (common : List (NodeId × EpId)) × IsCommonLink (seen_by s.router) e.0 common
   has_common link s e there =
       let x = end_on link s e in
       let sorted = ascending_of endpoint_cmp endpoint_total endpoint_exact (common_link (home_of w r usable) x) in (
@@ -70,7 +70,7 @@ module _ (w : Parts) (r : Member) (usable : List Delegated) (case : IsCase w r u
       )
 
   -- that of each other endpoint on the link
-  on_both : (link : Link) (s u : Member) (e f : EpId) → IsThere w r link s e → IsThere w r link u f → (at : NodeId × EpId)
+  on_both : (link : Link) (s u : Member) (e f : EpId) → IsThereByRules w r link s e → IsThereByRules w r link u f → (at : NodeId × EpId)
       → IsOnCommonLink (seen_by s.router) e.0 at → IsOnCommonLink (seen_by u.router) f.0 at
   on_both link s u e f one other at on =
       let here : IsOnLinkOf (home_of w r usable) (end_on link s e) at.0 at.1 =
@@ -79,7 +79,7 @@ module _ (w : Parts) (r : Member) (usable : List Delegated) (case : IsCase w r u
       record { endpoint = here.endpoint; there = here.there; on_link = here.on_link; of_node = here.of_node; of_id = here.of_id } in
       (common_is_link w r usable case u (reached_there w r case.known link u f other) (end_on link u f) (there_end w r case.known link u f other) at.0 at.1).1 there
 
-  common_too : (link : Link) (s u : Member) (e f : EpId) (common : List (NodeId × EpId)) → IsThere w r link s e → IsThere w r link u f
+  common_too : (link : Link) (s u : Member) (e f : EpId) (common : List (NodeId × EpId)) → IsThereByRules w r link s e → IsThereByRules w r link u f
       → IsCommonLink (seen_by s.router) e.0 common → IsCommonLink (seen_by u.router) f.0 common
   common_too link s u e f common one other is = record {
     ascending = is.ascending;
@@ -224,7 +224,7 @@ module _ (w : Parts) (r : Member) (usable : List Delegated) (case : IsCase w r u
         )
       ]
 
-  pub one_elected : (letter : Letter) (link : Link) (s u : Member) (e f : EpId) → IsThere w r link s e → IsThere w r link u f → ElectSame s.router e u.router f letter
+  pub one_elected : (letter : Letter) (link : Link) (s u : Member) (e f : EpId) → IsThereByRules w r link s e → IsThereByRules w r link u f → ElectSame s.router e u.router f letter
   one_elected letter link s u e f one other =
       let common = has_common link s e one in
       let s_in = reached_there w r case.known link s e one in

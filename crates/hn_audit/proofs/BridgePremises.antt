@@ -1,7 +1,7 @@
 -- The home of a settled and quiet set meets all that is asked of a home.
 use Rattle.hn_base.proofs.Names.{◌≡◌, ◌∙◌, ◌≤◌, ℕ, List, Some, Contains, sym, ap, subst, arith, IsTotalOrder, All-contains, slice_get_within, get_or_from_slice_get, IsExact, PlainPrefix, IsWithin}
 use Rattle.hn_audit.proofs.Names.{Contains-map, EpId, Assigned, Pair, IsWished, assigned_pair, pair_cmp, Delegated, AreUsable, prefixes_of, UsableIsUnique, UsableNeverOverlap, CommonLinkExists}
-use Rattle.hn_audit.proofs.Names.{AssignedIsPublished, OwnPeersAreOfEndpoints, PrivatePostIsAlone, seen_by, Endpoint, EndpointHasAssignment, Member, Parts, IsReached, AreSame, IsQuiet, Link, IsPostOn}
+use Rattle.hn_audit.proofs.Names.{AssignedIsPublished, OwnPeersAreOfEndpoints, PrivatePostIsAlone, seen_by, Endpoint, EndpointHasAssignment, Member, Parts, IsReached, AreSame, IsQuietByRules, Link, IsPostOn}
 use Rattle.hn_audit.proofs.Names.{one_of_ascending}
 use Rattle.hn_assign.specs.Facts.{IsInDelegated, HasOwnPriority}
 use Rattle.hn_sound.specs.Home.{HasPublished}
@@ -32,7 +32,7 @@ module _ (w : Parts) (r : Member) (usable : List Delegated) (case : IsCase w r u
   uses_same s list s_in are =
       used_same case.unique s.router r.router list usable (case.known.settled.used s r s_in (itself w r case.known)) are case.are_usable
 
-  pub for_used : IsQuiet w r → (s : Member) (c : Assigned) → IsReached w r s → Contains s.router.held.assigned c → Contains (prefixes_of usable) c.delegated
+  pub for_used : IsQuietByRules w r → (s : Member) (c : Assigned) → IsReached w r s → Contains s.router.held.assigned c → Contains (prefixes_of usable) c.delegated
   for_used quiet s c s_in there =
       let rest = quiet s s_in in
       let wished = All-contains (λ (x : Assigned). IsWished rest.wishes (assigned_pair x)) s.router.held.assigned c rest.wished there in
@@ -83,7 +83,7 @@ module _ (w : Parts) (r : Member) (usable : List Delegated) (case : IsCase w r u
       let a = of_end w r case.known usable e has.there in
       (a.0, a.1, of_has w r case.known usable a.0 e d c a.1 has)
 
-  each_for_used : IsQuiet w r → (e : Endpoint) (d : PlainPrefix) (c : Assigned) → EndpointHasAssignment (home_of w r usable) e d c → Contains (prefixes_of usable) d
+  each_for_used : IsQuietByRules w r → (e : Endpoint) (d : PlainPrefix) (c : Assigned) → EndpointHasAssignment (home_of w r usable) e d c → Contains (prefixes_of usable) d
   each_for_used quiet e d c has =
       let by = holder e d c has in
       subst (Contains (prefixes_of usable)) by.2.of_delegated (for_used quiet by.0 c by.1.reached by.2.held)
@@ -107,7 +107,7 @@ module _ (w : Parts) (r : Member) (usable : List Delegated) (case : IsCase w r u
       let is : priority ≡ 2 = has_priority by.0 c priority by.1.reached by.2.held says.published in
       omega arith
 
-  pub is_home : IsQuiet w r → IsHome (home_of w r usable)
+  pub is_home : IsQuietByRules w r → IsHome (home_of w r usable)
   is_home quiet OneLink = one_link
   is_home quiet OnceOnLink = once_on_link
   is_home quiet UsedApart = λ d other there also. case.apart (seen_by r.router) usable d other case.are_usable there also

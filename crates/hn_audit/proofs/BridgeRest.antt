@@ -1,7 +1,7 @@
 -- In the home of a settled and quiet set each pair is at rest as its router sees it.
 use Rattle.hn_base.proofs.Names.{◌≡◌, ◌∙◌, ◌↔◌, ℕ, not, List, Option, Some, None, Contains, refl, sym, ap, subst, PlainPrefix, HasAt}
 use Rattle.hn_audit.proofs.Names.{slice_get, NodeId, EpId, Assigned, Wish, Pair, assigned_pair, pair_cmp, wish_pair, IsAtRest, Delegated, prefixes_of, IsCommonLink, length_at, posts_of, IsWishAt}
-use Rattle.hn_audit.proofs.Names.{IsRouter, seen_by, Endpoint, IsOnLinkOf, Member, Parts, AreSame, IsRouterAtRest, IsQuiet}
+use Rattle.hn_audit.proofs.Names.{IsRouter, seen_by, Endpoint, IsOnLinkOf, Member, Parts, AreSame, IsRouterAtRest, IsQuietByRules}
 use Rattle.hn_base.proofs.AtKey.{has_some}
 use Rattle.hn_sound.specs.AtRest.{IsAssignmentOf}
 use Rattle.hn_sound.specs.Home.{wish_of}
@@ -12,7 +12,7 @@ use Rattle.hn_audit.proofs.BridgeHomes.{home_of, set_of, length_in, length_is, I
 use Rattle.hn_audit.proofs.BridgePremises.{IsCase, uses_same}
 use Rattle.hn_audit.proofs.BridgeSeen.{gathered_is_published, common_is_link}
 
-module _ (w : Parts) (r : Member) (usable : List Delegated) (case : IsCase w r usable) (quiet : IsQuiet w r) where
+module _ (w : Parts) (r : Member) (usable : List Delegated) (case : IsCase w r usable) (quiet : IsQuietByRules w r) where
   -- a pair of the home, the wish for it, and how it is at rest for its router
   record IsResting (s : Member) (x : Endpoint) (d : PlainPrefix) : Type 0 where
     end : IsEndOf w r s x

@@ -1,7 +1,7 @@
 -- What a router of a settled set knows of the assignments and of the links of the set is how they are.
 use Rattle.hn_base.proofs.Names.{◌≡◌, ◌∙◌, ◌↔◌, ◌⊎◌, ◌<◌, ℕ, List, Option, Some, None, Contains, inl, inr, refl, sym, ap, subst, option_map, cases_eq, same_Some, plain_caps}
 use Rattle.hn_audit.proofs.Names.{same_node, same_id, NodeId, EpId, Advertised, Assigned, IsLinked, HasPeer, peer_link, Entry, Delegated, IsOnCommonLink, view_of, seen_by, Endpoint, IsOnLinkOf}
-use Rattle.hn_audit.proofs.Names.{Member, Parts, link_of, IsReached, AreOnOneLink, AreLinked, IsSameEndpoint, Link, Joint, Private, IsPostOn, in_filter_map, from_filter_map}
+use Rattle.hn_audit.proofs.Names.{Member, Parts, link_of, IsReached, AreOnOneLink, AreLinkedByRules, IsSameEndpoint, Link, Joint, Private, IsPostOn, in_filter_map, from_filter_map}
 use Rattle.hn_assign.specs.Gathered as gathered
 use Rattle.hn_data.specs.Said.{HasAssigned, HasVersion}
 use Rattle.hn_data.specs.declared.said.AssignedPrefix.{AssignedPrefix}
@@ -153,7 +153,7 @@ module _ (w : Parts) (r : Member) (usable : List Delegated) (case : IsCase w r u
         | inr differs ↦ inr (λ same. differs (ap (λ (x : NodeId). x.0) same.0))
       ]
 
-  linked_in_view : (e f : EpId) (u : Member) → IsReached w r u → AreLinked s.router e u.router f → IsLinkedWithOwn (seen_by s.router) e.0 u.router.id.0 f.0
+  linked_in_view : (e f : EpId) (u : Member) → IsReached w r u → AreLinkedByRules s.router e u.router f → IsLinkedWithOwn (seen_by s.router) e.0 u.router.id.0 f.0
   linked_in_view e f u u_in linked =
       let own = in_view w r case.known s s s_in s_in in
       let node = in_view w r case.known s u s_in u_in in
@@ -169,7 +169,7 @@ module _ (w : Parts) (r : Member) (usable : List Delegated) (case : IsCase w r u
             (subst (λ (body : List ℕ). IsLinked s.router.own.body s.router.id.0 e.0 body u.router.id.0 f.0) (sym node.2.body) linked);
       }
 
-  view_linked : (e f : EpId) (y : NodeId) → IsLinkedWithOwn (seen_by s.router) e.0 y.0 f.0 → (u : Member) × IsReached w r u × (u.router.id ≡ y) × AreLinked s.router e u.router f
+  view_linked : (e f : EpId) (y : NodeId) → IsLinkedWithOwn (seen_by s.router) e.0 y.0 f.0 → (u : Member) × IsReached w r u × (u.router.id ≡ y) × AreLinkedByRules s.router e u.router f
   view_linked e f y at =
       let own = of_view w r case.known s at.own s_in at.own_there in
       let node = of_view w r case.known s at.node s_in at.node_there in

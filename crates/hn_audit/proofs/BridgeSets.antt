@@ -1,7 +1,7 @@
 -- The set of a settled router: its routers are known by their identifiers, and each sees the others as they are.
 use Rattle.hn_base.proofs.Names.{◌≡◌, ◌∙◌, true, List, Some, Contains, inl, inr, refl, sym, ap, subst, and_from, and_parts, eqb-true, eq-eqb, cases_eq, All-contains, same_Some, plain_caps}
 use Rattle.hn_audit.proofs.Names.{◌==◌, Contains-from_map, same_node, NodeId, HasItems, version_of, Entry, State, ViewIsNetwork, EntriesAreAsKnown, held_entry, own_entry, entry_of, view_of, IsRouter}
-use Rattle.hn_audit.proofs.Names.{Member, Parts, IsAttachedMember, IsRunning, IsReached, IsOfOne, runs_as, IsSettled, HoldsState, in_filter_map, from_filter_map}
+use Rattle.hn_audit.proofs.Names.{Member, Parts, IsAttachedMember, IsRunning, IsReached, IsOfOne, runs_as, IsSettledByRules, HoldsState, in_filter_map, from_filter_map}
 use Rattle.hn_audit.proofs.BridgeLists.{one_passes, two_pass}
 
 -- ---- what is known of a settled router of a replayed world
@@ -16,7 +16,7 @@ pub record IsKnown (w : Parts) (r : Member) : Type 0 where
   pub network : ViewIsNetwork
   pub entries : EntriesAreAsKnown
   pub runs : IsRunning w r
-  pub settled : IsSettled w r
+  pub settled : IsSettledByRules w r
 
 -- a router reaches itself
 pub reaches_itself : ViewIsNetwork → EntriesAreAsKnown → (s : State) → IsRouter s → Contains s.reach s.id

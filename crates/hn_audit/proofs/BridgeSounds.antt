@@ -1,12 +1,12 @@
 -- What is sound of the home of a settled and quiet set is sound of its routers.
 use Rattle.hn_base.proofs.Names.{◌≡◌, ◌≢◌, ◌∙◌, ◌⊎◌, ℕ, List, Option, None, Some, IsSome, is_some, Contains, IsTrue, not, inl, inr, refl, sym, ap, subst, true, false, cases_Bool, not_from_false}
 use Rattle.hn_base.proofs.Names.{PlainPrefix, IsWithin, Overlaps}
-use Rattle.hn_audit.proofs.Names.{slice_get, EpId, Assigned, Delegated, prefixes_of, length_at, seen_by, Endpoint, AdvertisedIsExact, Member, Parts, IsReached, IsQuiet, AreSame, Uses, Link, Joint}
-use Rattle.hn_audit.proofs.Names.{Private, IsPostOn, IsThere, IsServedLink, IsWithout, IsHeldOn}
+use Rattle.hn_audit.proofs.Names.{slice_get, EpId, Assigned, Delegated, prefixes_of, length_at, seen_by, Endpoint, AdvertisedIsExact, Member, Parts, IsReached, IsQuietByRules, AreSame, UsesByRules, Link, Joint}
+use Rattle.hn_audit.proofs.Names.{Private, IsPostOn, IsThereByRules, IsServedLink, IsWithout, IsHeldOn}
 use Rattle.hn_assign.specs.Best.{HasNoFree}
 use Rattle.hn_sound.specs.Home.{advertised}
 use Rattle.hn_sound.specs.Sound as home
-use Rattle.hn_audit.specs.Sound.{DoesNotWant, SeesNoFree}
+use Rattle.hn_audit.specs.Sound.{DoesNotWantByRules, SeesNoFreeByRules}
 use Rattle.hn_audit.proofs.BridgeSets.{IsKnown, one_member}
 use Rattle.hn_audit.proofs.BridgeUsed.{is_unwanted, to_unwanted, place_of, delegated_at}
 use Rattle.hn_audit.proofs.BridgeHomes.{home_of, set_of, number_of, end_on, length_in, length_is, IsEndOf, same_link, an_end, end_there, of_end, to_has, of_has}
@@ -18,7 +18,7 @@ its_priority (Some p) some = (p, refl)
 its_priority None some = absurd (cc)
 
 -- on a link of a settled set are routers of the set alone
-pub reached_there : (w : Parts) (r : Member) → IsKnown w r → (link : Link) (s : Member) (e : EpId) → IsThere w r link s e → IsReached w r s
+pub reached_there : (w : Parts) (r : Member) → IsKnown w r → (link : Link) (s : Member) (e : EpId) → IsThereByRules w r link s e → IsReached w r s
 reached_there w r known (Joint place) s e there =
     let set = there.of_set in
     known.settled.no_strangers s set.router e set.post there.runs set.reached (record { link = place; one = there.on_link.1; other = set.on_link.1 })
@@ -26,7 +26,7 @@ reached_there w r known (Private n) s e there =
     let set = there.of_set in
     subst (IsReached w r) (set.on_link.0 ∙ sym there.on_link.0) set.reached
 
-to_there : (w : Parts) (r : Member) (link : Link) (s : Member) (e : EpId) → IsReached w r s → IsPostOn link s e → IsThere w r link s e
+to_there : (w : Parts) (r : Member) (link : Link) (s : Member) (e : EpId) → IsReached w r s → IsPostOn link s e → IsThereByRules w r link s e
 to_there w r link s e reached on = record {
   runs = reached.runs;
   on_link = on;
@@ -34,17 +34,17 @@ to_there w r link s e reached on = record {
 }
 
 -- a post that is there is one of the home
-pub there_end : (w : Parts) (r : Member) → IsKnown w r → (link : Link) (s : Member) (e : EpId) → IsThere w r link s e → IsEndOf w r s (end_on link s e)
+pub there_end : (w : Parts) (r : Member) → IsKnown w r → (link : Link) (s : Member) (e : EpId) → IsThereByRules w r link s e → IsEndOf w r s (end_on link s e)
 there_end w r known link s e there = an_end w r known link s e (reached_there w r known link s e there) there.on_link
 
-module _ (w : Parts) (r : Member) (usable : List Delegated) (case : IsCase w r usable) (quiet : IsQuiet w r)
+module _ (w : Parts) (r : Member) (usable : List Delegated) (case : IsCase w r usable) (quiet : IsQuietByRules w r)
     (exact : AdvertisedIsExact) (is_sound : home.IsSoundHome (home_of w r usable)) where
   -- ---- used prefixes, and those inside them
 
-  in_used : (d : PlainPrefix) → Uses r.router d → Contains (prefixes_of usable) d
+  in_used : (d : PlainPrefix) → UsesByRules r.router d → Contains (prefixes_of usable) d
   in_used d uses = subst (λ (list : List Delegated). Contains (prefixes_of list) d) (case.unique (seen_by r.router) uses.usable usable uses.are_usable case.are_usable) uses.there
 
-  pub inside : (s : Member) (c : Assigned) → IsReached w r s → Contains s.router.held.assigned c → Uses r.router c.delegated × IsWithin c.prefix c.delegated
+  pub inside : (s : Member) (c : Assigned) → IsReached w r s → Contains s.router.held.assigned c → UsesByRules r.router c.delegated × IsWithin c.prefix c.delegated
   inside s c s_in there = (
     record { usable = usable; are_usable = case.are_usable; there = for_used w r usable case quiet s c s_in there },
     is_inside w r usable case s c s_in there,
@@ -52,10 +52,10 @@ module _ (w : Parts) (r : Member) (usable : List Delegated) (case : IsCase w r u
 
   -- ---- a link that is served
 
-  in_home : (link : Link) (s : Member) (e : EpId) → IsThere w r link s e → Contains (home_of w r usable).endpoints (end_on link s e)
+  in_home : (link : Link) (s : Member) (e : EpId) → IsThereByRules w r link s e → Contains (home_of w r usable).endpoints (end_on link s e)
   in_home link s e there = end_there w r case.known usable s (end_on link s e) (there_end w r case.known link s e there)
 
-  served : (link : Link) (t : Member) (f : EpId) (d : PlainPrefix) → IsThere w r link t f → home.IsLinkServed (home_of w r usable) (number_of link) d → IsServedLink w r link d
+  served : (link : Link) (t : Member) (f : EpId) (d : PlainPrefix) → IsThereByRules w r link t f → home.IsLinkServed (home_of w r usable) (number_of link) d → IsServedLink w r link d
   served link t f d here is =
       let by = of_end w r case.known usable is.publisher is.published.has.there in
       let link_is : by.1.link ≡ link =
@@ -82,7 +82,7 @@ module _ (w : Parts) (r : Member) (usable : List Delegated) (case : IsCase w r u
 
   -- ---- a link that has no use of it
 
-  does_not_want : (s : Member) (d : PlainPrefix) → IsReached w r s → Contains (prefixes_of usable) d → ¬ (IsTrue (not (is_unwanted usable d))) → DoesNotWant s.router d
+  does_not_want : (s : Member) (d : PlainPrefix) → IsReached w r s → Contains (prefixes_of usable) d → ¬ (IsTrue (not (is_unwanted usable d))) → DoesNotWantByRules s.router d
   does_not_want s d s_in d_in unwanted =
       let rest = quiet s s_in in
       let same : AreSame rest.usable usable = uses_same w r usable case s rest.usable s_in rest.are_usable in
@@ -101,8 +101,8 @@ module _ (w : Parts) (r : Member) (usable : List Delegated) (case : IsCase w r u
         unwanted = (same.wanted at.0).1 (to_unwanted usable case.are_usable.ascending at.0 here.0 here.1 is);
       }
 
-  sees_no_free : (link : Link) (s : Member) (e : EpId) (d : PlainPrefix) → IsThere w r link s e
-      → HasNoFree (advertised (home_of w r usable)) d (length_in (set_of w r) (end_on link s e)) → SeesNoFree s.router e d
+  sees_no_free : (link : Link) (s : Member) (e : EpId) (d : PlainPrefix) → IsThereByRules w r link s e
+      → HasNoFree (advertised (home_of w r usable)) d (length_in (set_of w r) (end_on link s e)) → SeesNoFreeByRules s.router e d
   sees_no_free link s e d there none =
       let s_in = reached_there w r case.known link s e there in
       let rest = quiet s s_in in
@@ -126,7 +126,7 @@ module _ (w : Parts) (r : Member) (usable : List Delegated) (case : IsCase w r u
     ];
   }
 
-  pub each_link : (link : Link) (s : Member) (e : EpId) (d : PlainPrefix) → IsThere w r link s e → Uses r.router d → IsServedLink w r link d ⊎ IsWithout w r link d
+  pub each_link : (link : Link) (s : Member) (e : EpId) (d : PlainPrefix) → IsThereByRules w r link s e → UsesByRules r.router d → IsServedLink w r link d ⊎ IsWithout w r link d
   each_link link s e d there uses =
       elim (is_sound.each_link (end_on link s e) d (in_home link s e there) (in_used d uses)) [
         | inl is ↦ inl (served link s e d there is)

@@ -1,8 +1,8 @@
 -- A running router of a replayed world that is settled and quiet is sound, and where it is settled its set is sound alike.
 use Rattle.hn_base.proofs.Names.{List, [], sym, subst, IsTotalOrder, append-nil, All-contains, IsExact}
 use Rattle.hn_audit.proofs.Names.{pair_cmp, ItemsAreUnique, Delegated, UsableIsUnique, UsableNeverOverlap, AreUsable, CommonLinkExists, AssignedIsPublished, ViewIsNetwork, EntriesAreAsKnown}
-use Rattle.hn_audit.proofs.Names.{OwnPeersAreOfEndpoints, PrivatePostIsAlone, seen_by, AdvertisedIsExact, CommonLinkIsExact, Member, Parts, IsReplayed, IsAttachedMember, IsSoundMember, IsQuiet}
-use Rattle.hn_audit.proofs.Names.{IsRunning, IsSettled, Joint, IsSound}
+use Rattle.hn_audit.proofs.Names.{OwnPeersAreOfEndpoints, PrivatePostIsAlone, seen_by, AdvertisedIsExact, CommonLinkIsExact, Member, Parts, IsReplayed, IsAttachedMember, IsSoundMember, IsQuietByRules}
+use Rattle.hn_audit.proofs.Names.{IsRunning, IsSettledByRules, Joint, IsSoundByRules}
 use Rattle.hn_deleg.specs.Laws.{UsableExists}
 use Rattle.hn_sound.specs.Laws.{HomeRestsAsSeen, HomeAtRestIsSound}
 use Rattle.hn_sound.specs.Sound as home
@@ -49,7 +49,7 @@ attached_now laws w replayed =
     let found = laws.attached w replayed w.trace [] (sym (append-nil w.trace)) in
     subst AreAttached (laws.one_world w.version w.trace found.0 w found.1 replayed) found.2
 
-pub known_of : WorldLaws → (w : Parts) (r : Member) → IsReplayed w → IsRunning w r → IsSettled w r → IsKnown w r
+pub known_of : WorldLaws → (w : Parts) (r : Member) → IsReplayed w → IsRunning w r → IsSettledByRules w r → IsKnown w r
 known_of laws w r replayed runs settled = record {
   routers = λ m there. (All-contains (IsSoundMember w.moment) w.members m (laws.sound w replayed) there).router;
   attached = λ m there. All-contains IsAttachedMember w.members m (attached_now laws w replayed) there;
@@ -59,7 +59,7 @@ known_of laws w r replayed runs settled = record {
   settled = settled;
 }
 
-sound_case : BridgeLaws → (w : Parts) (r : Member) (usable : List Delegated) → IsCase w r usable → IsQuiet w r → IsSound w r
+sound_case : BridgeLaws → (w : Parts) (r : Member) (usable : List Delegated) → IsCase w r usable → IsQuietByRules w r → IsSoundByRules w r
 sound_case laws w r usable case quiet =
     let is_sound : home.IsSoundHome (home_of w r usable) =
     laws.home_sound (home_of w r usable) (is_home w r usable case quiet) (laws.rests (home_of w r usable) (rests_as_seen w r usable case quiet)) in

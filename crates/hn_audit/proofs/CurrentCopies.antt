@@ -1,7 +1,7 @@
 -- The copies that a tick makes are current, and copies stay so.
 use Rattle.hn_base.proofs.Names.{◌≡◌, ◌≢◌, ◌∙◌, ◌<◌, ◌^◌, ℕ, true, Option, Some, slice_get, refl, sym, ap, subst, arith, ◌==◌, and_from, eq-eqb, All-contains, same_Some, slice_get_within, IsLinkLocal}
 use Rattle.hn_audit.proofs.Names.{IsTrue, Contains-from_map, contains_at, Addr, EpId, NodeId, peer_link, HasPeer, Port, PlainData, ArePorts, endpoints_of, Outgoing, State, HashIsOfLeaves}
-use Rattle.hn_audit.proofs.Names.{IsStatusUpdate, IsStatusSend, MailCopy, Member, Parts, copy_for, IsReplayed, IsCurrent, runs_as, IsRunning, IsOfOne, IsReached, IsOnLink, AreOnOneLink, AreLinked}
+use Rattle.hn_audit.proofs.Names.{IsStatusUpdate, IsStatusSend, MailCopy, Member, Parts, copy_for, IsReplayed, IsCurrent, runs_as, IsRunning, IsOfOne, IsReached, IsOnLink, AreOnOneLink, AreLinkedByRules}
 use Rattle.std.proofs.Common.{is_none}
 use Rattle.hn_audit.proofs.BridgeSets.{IsKnown}
 use Rattle.hn_audit.proofs.CopiesOnLinks.{IsCopyOf, one_endpoint, one_place}
@@ -66,7 +66,7 @@ module _ (w : Parts) (replayed : IsReplayed w) (r : Member) (known : IsKnown w r
           let number = All-contains (λ (p : Port). (0 < p.id.0) × (p.id.0 < 2 ^ 32)) m.router.ports from.0 ports.numbered from.1 in
           subst (λ (e : EpId). (0 < e.0) × (e.0 < 2 ^ 32)) from.2 number
 
-      linked : AreLinked m.router send.endpoint y.router mail.to.endpoint
+      linked : AreLinkedByRules m.router send.endpoint y.router mail.to.endpoint
       linked = (known.settled.linked m y send.endpoint mail.to.endpoint sender_reached reached (λ same. other_id (ap (λ (i : NodeId). i.0) same.0))).1 on_one
 
       same_hash : m.router.net ≡ y.router.net

@@ -1,7 +1,7 @@
 -- What the search for what a set would do finds, as facts of the world: nothing if and only if the router is quiet.
 use Rattle.hn_base.proofs.Names.{◌≡◌, ◌↔◌, Bool, true, false, IsTrue, IfSome, Option, Some, None, Contains, refl, sym, subst, inl, inr, IsTotalOrder, false≢true, All-contains, HasAt}
 use Rattle.hn_audit.proofs.Names.{contains_at, Advertised, Assigned, Wish, IsWished, assigned_pair, pair_cmp, wish_pair, IsAtRest, UsableIsUnique, RestKnowsNoOrder, State, Member, Parts, Unquiet}
-use Rattle.hn_audit.proofs.Names.{IsFoundOf, act_of, FindsOfRouter, FindsRestless, FindsUnasked, IsFirstUnquiet, WitnessNamesRestless, IsQuiet, IsRouterAtRest, IsReached, set_of, Disturbs, IsOfSet}
+use Rattle.hn_audit.proofs.Names.{IsFoundOf, act_of, FindsOfRouter, FindsRestless, FindsUnasked, IsFirstUnquiet, WitnessNamesRestless, IsQuietByRules, IsRouterAtRest, IsReached, set_of, Disturbs, IsOfSet}
 use Rattle.hn_assign.specs.Best.{IsBestIfAny}
 use Rattle.hn_assign.specs.Fixed.{IsWishAtRest}
 use Rattle.hn_audit.specs.declared.witness.Unquiet.TheVariants as act
@@ -24,7 +24,7 @@ router_rests s h = record {
   at_rest = λ wish there. All-contains (IsWishAtRest h.outlook.advertised s.router.id.0 s.router.held.assigned) h.outlook.wishes wish h.found.1 there;
 }
 
-pub none_quiets : (w : Parts) (r : Member) → IsFirstUnquiet w r None → IsQuiet w r
+pub none_quiets : (w : Parts) (r : Member) → IsFirstUnquiet w r None → IsQuietByRules w r
 none_quiets w r none s reached = router_rests s ((each_of_set w r (λ (m : Member). FindsOfRouter m None)).0 none s reached)
 
 -- ---- what a witness says
@@ -154,7 +154,7 @@ module _ (unique : UsableIsUnique) (total : IsTotalOrder pair_cmp) (order : Rest
 
 -- ---- the facts of an answer
 
-pub first_tells : WitnessRefutesQuiet → (w : Parts) (r : Member) (answer : Option Unquiet) → IsFirstUnquiet w r answer → ((answer ≡ None) ↔ IsQuiet w r) × IfSome answer (Disturbs w r)
+pub first_tells : WitnessRefutesQuiet → (w : Parts) (r : Member) (answer : Option Unquiet) → IsFirstUnquiet w r answer → ((answer ≡ None) ↔ IsQuietByRules w r) × IfSome answer (Disturbs w r)
 first_tells law w r None first = ((λ none. none_quiets w r first, λ quiet. refl), tt)
 first_tells law w r (Some u) first =
     let said = first_disturbs w r u first in

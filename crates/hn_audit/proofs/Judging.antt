@@ -1,7 +1,7 @@
 -- What the search for a witness finds, as facts of the world: nothing if and only if the router is settled.
 use Rattle.hn_base.proofs.Names.{◌≡◌, ◌≢◌, ◌∙◌, ◌↔◌, ◌<◌, ℕ, IfSome, Option, Some, None, refl, sym, ap, subst, inl, inr, arith, count_by, All-contains}
 use Rattle.hn_audit.proofs.Names.{NodeId, contains_at, held, Stored, Member, Parts, Unsettled, IsFirstFound, IsFoundOf, unheld_of, FindsAlike, FindsHeld, FindsId, FindsReach, FindsUsed}
-use Rattle.hn_audit.proofs.Names.{IsFirstUnsettled, FindsNear, FindsOfPeers, FindsOnLinks, FindsStranger, FindsUnseen, FindsUntrue, runs_as, IsOfOne, IsReached, set_of, HoldsState, IsSettled, UseSame}
+use Rattle.hn_audit.proofs.Names.{IsFirstUnsettled, FindsNear, FindsOfPeers, FindsOnLinks, FindsStranger, FindsUnseen, FindsUntrue, runs_as, IsOfOne, IsReached, set_of, HoldsState, IsSettledByRules, UseSame}
 use Rattle.hn_audit.proofs.Names.{IsOfSet, Refutes}
 use Rattle.hn_audit.specs.declared.witness.Unsettled.TheVariants as cause
 use Rattle.hn_audit.specs.FirstWitness.{IsUnheld}
@@ -10,7 +10,7 @@ use Rattle.hn_audit.proofs.Spotting.{linked_are, no_strangers_are, spot_is, spot
 
 -- ---- where nothing is found
 
-pub none_settles : (w : Parts) (r : Member) → IsFirstUnsettled w r None → IsSettled w r
+pub none_settles : (w : Parts) (r : Member) → IsFirstUnsettled w r None → IsSettledByRules w r
 none_settles w r (known, ((reach, (hold, same)), (strangers, (sees, tells)))) = record {
   known = known;
   same_reach = (each_of_set w r (λ s. s.router.reach ≡ r.router.reach)).0 reach;
@@ -155,7 +155,7 @@ none_is_not_one n one none = omega (arith, one, none)
 many_are_not_one : (n : ℕ) → n ≡ 1 → 1 < n → ⊥
 many_are_not_one n one many = omega (arith, one, many)
 
-pub refutes_settled : (w : Parts) (r : Member) (u : Unsettled) → Refutes w r u → ¬ IsSettled w r
+pub refutes_settled : (w : Parts) (r : Member) (u : Unsettled) → Refutes w r u → ¬ IsSettledByRules w r
 refutes_settled w r (cause.Unknown id) h settled =
     none_is_not_one (count_by (runs_as id) w.members) (All-contains (IsOfOne w) r.router.reach id settled.known h.reached) h.nobody
 refutes_settled w r (cause.Shared id) h settled =
@@ -183,7 +183,7 @@ refutes_settled w r (cause.NotOnOneLink router e other f) h settled =
 
 -- ---- the three facts of an answer
 
-pub first_says : (w : Parts) (r : Member) (answer : Option Unsettled) → IsFirstUnsettled w r answer → ((answer ≡ None) ↔ IsSettled w r) × IfSome answer (Refutes w r)
+pub first_says : (w : Parts) (r : Member) (answer : Option Unsettled) → IsFirstUnsettled w r answer → ((answer ≡ None) ↔ IsSettledByRules w r) × IfSome answer (Refutes w r)
 first_says w r None first = ((λ none. none_settles w r first, λ settled. refl), tt)
 first_says w r (Some u) first =
     let said = first_refutes w r u first in

@@ -17,11 +17,11 @@ pub use Rattle.hn_audit.specs.FirstWitness.{FindsStranger, FindsUnasked, FindsUn
 pub use Rattle.hn_audit.specs.Heard.{AreDelivered, AreHeardSince, ArePeersLinked, AreSendsHeard, AreSendsHeardSince, GoesInTurns, GoesLossless, HasTicked, IsCalmSince, IsLosslessEvent, IsSteady, IsSteadyEvent}
 pub use Rattle.hn_audit.specs.Lasting.{IsLastingUntil}
 pub use Rattle.hn_audit.specs.Laws.{AnewHasARun, RestHasARun, WitnessNamesRestless}
-pub use Rattle.hn_audit.specs.Quiet.{IsQuiet, IsRouterAtRest}
+pub use Rattle.hn_audit.specs.Quiet.{IsQuietByRules, IsRouterAtRest}
 pub use Rattle.hn_audit.specs.Reached.{AreOnOneLink, IsOfOne, IsOnLink, IsReached, IsRunning, runs_as}
 pub use Rattle.hn_audit.specs.Set.{AreSameAt, PlainSpot, is_in_set, members_of, plain_spot, plain_spots, set_of, spot_at, spots_in}
-pub use Rattle.hn_audit.specs.Settled.{AreLinked, AreSame, HoldsState, IsSameEndpoint, IsSettled, UseSame}
-pub use Rattle.hn_audit.specs.Sound.{IsHeldOn, IsPostOn, IsServedLink, IsSound, IsThere, IsWithout, Joint, Link, Private, Uses}
+pub use Rattle.hn_audit.specs.Settled.{AreLinkedByRules, AreSame, HoldsState, IsSameEndpoint, IsSettledByRules, UseSame}
+pub use Rattle.hn_audit.specs.Sound.{IsHeldOn, IsPostOn, IsServedLink, IsSoundByRules, IsThereByRules, IsWithout, Joint, Link, Private, UsesByRules}
 pub use Rattle.hn_audit.specs.Staying.{IsCalmArrival, IsCurrent, origin_of, IsMemberAt, IsRestful, KeepAssignments}
 pub use Rattle.hn_audit.specs.Witness.{Disturbs, IsOfSet, Refutes}
 pub use Rattle.hn_audit.specs.declared.spots.Spot.{Spot}

@@ -1,7 +1,7 @@
 -- A set is quiet if and only if the assignment subroutine, run anew, comes to something on each of its routers and changes
 -- nothing. And the router of a name runs.
 use Rattle.hn_base.proofs.Names.{◌≡◌, ◌↔◌, ℕ, Bool, true, false, not, IsTrue, IfSome, List, Option, Some, None, is_some, refl, sym, subst, option_map_or, All-contains, All-nil}
-use Rattle.hn_audit.proofs.Names.{All, IsRouter, Member, Parts, is_named, IsSoundWorld, IsSoundMember, AnewHasARun, RestHasARun, WitnessNamesRestless, IsQuiet, IsRunning, IsReached, Disturbs, Unquiet}
+use Rattle.hn_audit.proofs.Names.{All, IsRouter, Member, Parts, is_named, IsSoundWorld, IsSoundMember, AnewHasARun, RestHasARun, WitnessNamesRestless, IsQuietByRules, IsRunning, IsReached, Disturbs, Unquiet}
 use Rattle.hn_audit.proofs.Names.{found_passes}
 use Rattle.hn_world.specs.Names.{member_named}
 use Rattle.hn_audit.specs.Fixed.{ChangesNothing, IsFixed, MayChangeNothing, SomeActs}
@@ -12,7 +12,7 @@ use Rattle.hn_audit.specs.Reached.{runs}
 pub router_of : (w : Parts) (r s : Member) → IsSoundWorld w → IsReached w r s → IsRouter s.router
 router_of w r s sound reached = (All-contains (IsSoundMember w.moment) w.members s sound reached.runs.there).router
 
-module _ (w : Parts) (r : Member) (sound : IsSoundWorld w) (answer : Bool) (quiet : IsTrue answer ↔ IsQuiet w r) where
+module _ (w : Parts) (r : Member) (sound : IsSoundWorld w) (answer : Bool) (quiet : IsTrue answer ↔ IsQuietByRules w r) where
   pub quiet_changes_nothing : RestKeepsAssignments → IsTrue answer → ChangesNothing w r
   quiet_changes_nothing law is s ran reached run = law s.router ran (router_of w r s sound reached) run (quiet.0 is s reached)
 
@@ -46,7 +46,7 @@ module _ (w : Parts) (r : Member) (sound : IsSoundWorld w) where
 
   module _ (runs : AnewHasARun) (keeps : RestKeepsAssignments) (rests : UnchangedIsAtRest) (names : WitnessNamesRestless) where
     -- the answer by a witness: quiet if and only if no run changes anything, and else one acts
-    pub quiet_or_acts : (found : Option Unquiet) (answer : Bool) → is_some found ≡ not answer → IfSome found (Disturbs w r) → (IsTrue answer ↔ IsQuiet w r)
+    pub quiet_or_acts : (found : Option Unquiet) (answer : Bool) → is_some found ≡ not answer → IfSome found (Disturbs w r) → (IsTrue answer ↔ IsQuietByRules w r)
         → (IsTrue answer ↔ ChangesNothing w r) × ((answer ≡ false) ↔ SomeActs w r)
     quiet_or_acts None false said witness quiet = absurd (cc)
     quiet_or_acts (Some u) true said witness quiet = absurd (cc)

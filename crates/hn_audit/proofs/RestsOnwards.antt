@@ -3,7 +3,7 @@ use Rattle.hn_base.proofs.Names.{◌≡◌, ◌∙◌, ◌⊎◌, ◌<◌, ◌�
 use Rattle.hn_base.proofs.Names.{arith, All, option_map, cases_eq, All-contains, same_Some, slice_get_within}
 use Rattle.hn_audit.proofs.Names.{IsTrue, slice_set, nothing_in, contains_at, Name, ArePorts, endpoints_of, AreAssignmentsUnchanged, Done, Note, Outgoing, State, HashIsOfLeaves, IsRouter, Running}
 use Rattle.hn_audit.proofs.Names.{begun_at, IsTick, IsStatusSend, Tick, MailCopy, Traced, WEvent, Attachment, Member, Parts, copies_of, is_of, refusal, IsReplayed, IsSoundMember, Does, Step}
-use Rattle.hn_audit.proofs.Names.{IsCurrent, AreCurrent, IsCalmArrival, IsResting, IsRestfulEvent, IsQuiet, IsRunning, IsReached, IsSettled, IsMemberAt, KeepAssignments}
+use Rattle.hn_audit.proofs.Names.{IsCurrent, AreCurrent, IsCalmArrival, IsResting, IsRestfulEvent, IsQuietByRules, IsRunning, IsReached, IsSettledByRules, IsMemberAt, KeepAssignments}
 use Rattle.std.specs.List.{find}
 use Rattle.hn_typed.specs.Fields.{IsHash}
 use Rattle.hn_rules.specs.Laws.{RouterIsHashed}
@@ -86,7 +86,7 @@ pub record GoesOn (since place : ℕ) (before after : Parts) (r : Member) : Type
 
 module _ (laws : RestingLaws) (since place : ℕ) (before after : Parts) (replays : IsReplayed before) (replays_after : IsReplayed after) (r next : Member) (here : IsMemberAt place before after r next)
     (rest : IsResting since before r) (are : AreStill before after r) where
-  stays : IsSettled after next × IsQuiet after next × KeepAssignments before after r next
+  stays : IsSettledByRules after next × IsQuietByRules after next × KeepAssignments before after r next
   stays = stays_where_still laws.calm.stay before after replays place r next here rest.runs rest.settled rest.quiet are
 
   runs_now : IsRunning after next

@@ -4,7 +4,7 @@ use Rattle.hn_base.proofs.Names.{subst, arith, ◌||◌, option_map, option_map_
 use Rattle.hn_audit.proofs.Names.{slice_set, Contains-map, Contains-from_map, contains_at, EpId, NodeId, ListIsUnique, ItemIsUnique, Neighbour, Port, port_at, endpoints_of, is_attached, Passing, Done}
 use Rattle.hn_audit.proofs.Names.{Note, Outgoing, State, after_passing, IsStatusUpdate, IsStatusSend, MailCopy, Target, Traced, WEvent, Attachment, Member, Parts, copies_of, is_of, IsReplayed}
 use Rattle.hn_audit.proofs.Names.{IsSoundMember, IsAttachedMember, Does, Step, origin_of, IsResting, IsRestfulEvent, AreHeardSince, IsSteadyEvent, ArePeersLinked, AreSendsHeardSince, IsLosslessEvent}
-use Rattle.hn_audit.proofs.Names.{GoesLossless, AreDelivered, IsRunning, IsReached, IsOnLink, AreOnOneLink, IsMemberAt, IsRestful, KeepAssignments, IsQuiet, IsSettled, AreAssignmentsUnchanged, Name}
+use Rattle.hn_audit.proofs.Names.{GoesLossless, AreDelivered, IsRunning, IsReached, IsOnLink, AreOnOneLink, IsMemberAt, IsRestful, KeepAssignments, IsQuietByRules, IsSettledByRules, AreAssignmentsUnchanged, Name}
 use Rattle.std.specs.List.{find}
 use Rattle.hn_rules.specs.Router.{IsPortPast}
 use Rattle.hn_rules.specs.Updates.{HasMoved, PeersAreAttached}
@@ -487,7 +487,7 @@ heard_since start w r linked sends sent late delivered y q peer reached q_in pee
     )
 
 -- a router with current waiting copies rests
-pub rests_now : (before : Parts) (r : Member) → IsRunning before r → IsSettled before r → IsQuiet before r → AreWaitingCurrent before r → IsResting (length before.copies) before r
+pub rests_now : (before : Parts) (r : Member) → IsRunning before r → IsSettledByRules before r → IsQuietByRules before r → AreWaitingCurrent before r → IsResting (length before.copies) before r
 rests_now before r runs settled quiet waiting = record {
   runs = runs;
   settled = settled;
@@ -500,7 +500,7 @@ rests_now before r runs settled quiet waiting = record {
 
 -- a whole round
 pub one_whole : RoundLaws → (start heard : ℕ) (ts : List Traced) (place : ℕ) (before after : Parts) (r : Member) → IsReplayed before → slice_get before.members place ≡ Some r
-    → IsRunning before r → IsSettled before r → IsQuiet before r → AreWaitingCurrent before r
+    → IsRunning before r → IsSettledByRules before r → IsQuietByRules before r → AreWaitingCurrent before r
     → heard ≤ before.moment → AreHeardSince heard before r → ArePeersLinked before r → AreSendsHeardSince start before r
     → GoesLossless heard (length before.copies) place before ts after → GoesRound start heard (length before.copies) place before after r
 one_whole laws start heard ts place before after r replays at runs settled quiet waiting later peers linked sends goes =
@@ -537,12 +537,12 @@ replays_all laws heard since place (t ∷ ts) before after replays (between, (no
 pub record GoesOver (place : ℕ) (before after : Parts) (r : Member) : Type 0 where
   pub next : Member
   pub here : IsMemberAt place before after r next
-  pub settled : IsSettled after next
-  pub quiet : IsQuiet after next
+  pub settled : IsSettledByRules after next
+  pub quiet : IsQuietByRules after next
   pub keeps : KeepAssignments before after r next
   pub was : (k : ℕ) (then : Member) → slice_get after.members k ≡ Some then → (m : Member) × IsMemberAt k before after m then
 
-abbrev pub none_goes : (place : ℕ) (before : Parts) (r : Member) → slice_get before.members place ≡ Some r → IsSettled before r → IsQuiet before r → GoesOver place before before r
+abbrev pub none_goes : (place : ℕ) (before : Parts) (r : Member) → slice_get before.members place ≡ Some r → IsSettledByRules before r → IsQuietByRules before r → GoesOver place before before r
 none_goes place before r at settled quiet = record {
   next = r;
   here = record { was = at; is = at };
@@ -555,7 +555,8 @@ none_goes place before r at settled quiet = record {
   was = λ k then there. (then, record { was = there; is = there });
 }
 
-pub no_rounds : (place : ℕ) (before after : Parts) (r : Member) → slice_get before.members place ≡ Some r → IsSettled before r → IsQuiet before r → after ≡ before → GoesOver place before after r
+pub no_rounds : (place : ℕ) (before after : Parts) (r : Member) → slice_get before.members place ≡ Some r → IsSettledByRules before r → IsQuietByRules before r → after ≡ before
+    → GoesOver place before after r
 no_rounds place before after r at settled quiet is = subst (λ (w : Parts). GoesOver place before w r) (sym is) (none_goes place before r at settled quiet)
 
 abbrev pub more_rounds : (since place : ℕ) (before between after : Parts) (r : Member) → slice_get before.members place ≡ Some r → (one : GoesOn since place before between r)
@@ -579,7 +580,7 @@ more_rounds since place before between after r at one rest = record {
 }
 
 goes_over : RoundLaws → (rounds : List (List Traced × ℕ)) (heard place : ℕ) (before after : Parts) (r : Member) → IsReplayed before → slice_get before.members place ≡ Some r
-    → IsRunning before r → IsSettled before r → IsQuiet before r → AreWaitingCurrent before r
+    → IsRunning before r → IsSettledByRules before r → IsQuietByRules before r → AreWaitingCurrent before r
     → heard ≤ before.moment → AreHeardSince heard before r → ArePeersLinked before r → AreSendsHeardSince 0 before r
     → GoesInRounds heard place before rounds after → GoesOver place before after r
 goes_over laws [] heard place before after r replays at runs settled quiet waiting later peers linked sends is = no_rounds place before after r at settled quiet is

@@ -2,7 +2,7 @@
 use Rattle.hn_base.proofs.Names.{◌≡◌, ◌↔◌, ◌<◌, ℕ, ◌+◌, List, [], ◌∷◌, ◌++◌, Contains, Option, Some, None, length, take, get_or, refl, sym, ◌∙◌, ap, subst, append_assoc, inl, inr, filter_map}
 use Rattle.hn_base.proofs.Names.{option_map, cases_Bool, eqb-true, false≢true, All-contains}
 use Rattle.hn_audit.proofs.Names.{All, find, EpId, same_id, HasPeer, peer_link, PeerLink, Attachment, Member, Parts, is_of, link_of, IsFirstFound, FindsNear, FindsOfPeers, FindsStranger, FindsUnseen}
-use Rattle.hn_audit.proofs.Names.{IsSeenPair, IsTrueOf, IsRunning, IsReached, IsOnLink, AreOnOneLink, PlainSpot, is_in_set, set_of, spot_at, spots_in, AreLinked, IsSameEndpoint, in_filter_map}
+use Rattle.hn_audit.proofs.Names.{IsSeenPair, IsTrueOf, IsRunning, IsReached, IsOnLink, AreOnOneLink, PlainSpot, is_in_set, set_of, spot_at, spots_in, AreLinkedByRules, IsSameEndpoint, in_filter_map}
 use Rattle.hn_audit.proofs.Names.{from_filter_map, found_passes}
 use Rattle.hn_audit.specs.FirstWitness.{RunsOutside}
 use Rattle.hn_audit.specs.Set.{spots_at}
@@ -97,7 +97,7 @@ no_strangers_are w r all m s e f runs reached one =
 abbrev pub AreLinkedOnLinks : Parts → Member → Type 0
 AreLinkedOnLinks w r =
     (s u : Member) (e f : EpId) → IsReached w r s → IsReached w r u → ¬ IsSameEndpoint s.router e u.router f
-    → AreLinked s.router e u.router f ↔ AreOnOneLink s e u f
+    → AreLinkedByRules s.router e u.router f ↔ AreOnOneLink s e u f
 
 seen_of : (spots : List PlainSpot) → IsFirstFound (λ a. IsFirstFound (FindsUnseen a) spots) spots None → (a b : PlainSpot) → Contains spots a → Contains spots b → IsSeenPair a b
 seen_of spots all a b one other =

@@ -1,7 +1,7 @@
 -- Where each router of the set of a settled router stays as others see it, the router stays settled.
 use Rattle.hn_base.proofs.Names.{◌≡◌, ◌∙◌, ◌↔◌, ℕ, IsTrue, List, Some, Contains, sym, ap, subst, count_by, find, option_map, All-weaker, slice_get-get_or}
-use Rattle.hn_audit.proofs.Names.{All, slice_get, contains_at, EpId, NodeId, AreAssignmentsUnchanged, IsLinked, UsableIsUnique, PlainData, held, State, Attachment, Member, Parts, is_of, IsQuiet}
-use Rattle.hn_audit.proofs.Names.{IsRouterAtRest, runs_as, IsRunning, IsOfOne, IsReached, IsOnLink, HoldsState, UseSame, AreLinked, IsSettled, IsMemberAt, KeepAssignments}
+use Rattle.hn_audit.proofs.Names.{All, slice_get, contains_at, EpId, NodeId, AreAssignmentsUnchanged, IsLinked, UsableIsUnique, PlainData, held, State, Attachment, Member, Parts, is_of, IsQuietByRules}
+use Rattle.hn_audit.proofs.Names.{IsRouterAtRest, runs_as, IsRunning, IsOfOne, IsReached, IsOnLink, HoldsState, UseSame, AreLinkedByRules, IsSettledByRules, IsMemberAt, KeepAssignments}
 use Rattle.hn_audit.proofs.EqualInPlace.{same_back, use_same_too}
 
 -- a router of the world is the same one
@@ -31,7 +31,7 @@ use_back : (s u : State) → UseSame s u → UseSame u s
 use_back s u same = record { one = same.other; is_one = same.is_other; other = same.one; is_other = same.is_one; same = same_back same.one same.other same.same }
 
 module _ (unique : UsableIsUnique) (before after : Parts) (r next : Member) (place : ℕ) (here : IsMemberAt place before after r next) (are : AreStill before after r)
-    (itself : IsReached before r r) (settled : IsSettled before r) where
+    (itself : IsReached before r r) (settled : IsSettledByRules before r) where
   r_still : IsStillAs r.router next.router
   r_still = are.still place r next here itself
 
@@ -104,7 +104,7 @@ module _ (unique : UsableIsUnique) (before after : Parts) (r next : Member) (pla
   use_now s s' u u' s_same same u_same = use_same_too unique u s' u' (use_back s' u (use_same_too unique s s' u s_same same)) u_same
 
   links_are : (s s' u u' : Member) (e f : EpId) → IsKept s s' → IsKept u u' → IsStillAs s.router s'.router → IsStillAs u.router u'.router
-      → AreLinked s'.router e u'.router f ↔ AreLinked s.router e u.router f
+      → AreLinkedByRules s'.router e u'.router f ↔ AreLinkedByRules s.router e u.router f
   links_are s s' u u' e f s_kept u_kept s_still u_still =
       let P : NodeId → PlainData → NodeId → PlainData → Type 0 = λ s_id s_own u_id u_own. IsLinked s_own.body s_id.0 e.0 u_own.body u_id.0 f.0 in (
         λ linked.
@@ -117,7 +117,7 @@ module _ (unique : UsableIsUnique) (before after : Parts) (r next : Member) (pla
             (subst (λ (own : PlainData). P s.router.id s.router.own u'.router.id own) (sym u_still.own) (subst (λ (id : NodeId). P s.router.id s.router.own id u.router.own) (sym u_kept.id) linked))),
       )
 
-  pub settled_now : IsSettled after next
+  pub settled_now : IsSettledByRules after next
   settled_now = record {
     known = subst (All (IsOfOne after)) (sym r_still.reach) (All-weaker (IsOfOne before) (IsOfOne after) (λ id one. are.count id ∙ one) r.router.reach settled.known);
     same_reach = λ s' is. let s = was_reached s' is in s.still.reach ∙ settled.same_reach s.m s.reached ∙ sym r_still.reach;
@@ -148,7 +148,7 @@ module _ (unique : UsableIsUnique) (before after : Parts) (r next : Member) (pla
         );
   }
 
-  pub quiet_now : IsQuiet after next
+  pub quiet_now : IsQuietByRules after next
   quiet_now s' is = (was_reached s' is).still.rests
 
   pub kept_now : KeepAssignments before after r next

@@ -2,7 +2,7 @@
 use Rattle.hn_base.proofs.Names.{◌≡◌, ◌≢◌, ◌∙◌, ◌⊎◌, ℕ, zero, suc, Bool, cond, get_or, List, [], ◌∷◌, Some, slice_get, inl, inr, refl, sym, ap, subst, arith, ◌==◌, ◌&&◌, count_by, cases_eq}
 use Rattle.hn_base.proofs.Names.{All-contains, sum_by-set, get_or_from_slice_get, same_Some, slice_get_within}
 use Rattle.hn_audit.proofs.Names.{slice_set, NodeId, Name, PlainView, AreUsable, Done, Note, Running, State, IsRested, begun_at, seen_by, IsTick, Tick, MomentIsNow, Traced, WEvent, Member, Parts}
-use Rattle.hn_audit.proofs.Names.{WorldHasItsTrace, WorldHasItsVersion, IsReplayed, IsSoundMember, Does, IsQuiet, runs_as, IsRunning, IsReached, UseSame, IsSettled, IsMemberAt, IsRestful}
+use Rattle.hn_audit.proofs.Names.{WorldHasItsTrace, WorldHasItsVersion, IsReplayed, IsSoundMember, Does, IsQuietByRules, runs_as, IsRunning, IsReached, UseSame, IsSettledByRules, IsMemberAt, IsRestful}
 use Rattle.hn_audit.proofs.Names.{KeepAssignments}
 use Rattle.hn_rules.specs.Rested.{KeepsId}
 use Rattle.hn_router.specs.Act.{Happened}
@@ -41,7 +41,7 @@ count_put {A} p xs i x y at same =
 
 -- ---- time passes
 
-module _ (before after : Parts) (same : after.members ≡ before.members) (r : Member) (settled : IsSettled before r) (quiet : IsQuiet before r) where
+module _ (before after : Parts) (same : after.members ≡ before.members) (r : Member) (settled : IsSettledByRules before r) (quiet : IsQuietByRules before r) where
   same_at : (place : ℕ) → slice_get after.members place ≡ slice_get before.members place
   same_at place = ap (λ (members : List Member). slice_get members place) same
 
@@ -63,7 +63,7 @@ module _ (before after : Parts) (same : after.members ≡ before.members) (r : M
 
 module _ (before after : Parts) (place : ℕ) (x : Member) (n : State) (there : slice_get before.members place ≡ Some x)
     (gives : after.members ≡ slice_set before.members place (record x { router = n }))
-    (r : Member) (settled : IsSettled before r) (quiet : IsQuiet before r) where
+    (r : Member) (settled : IsSettledByRules before r) (quiet : IsQuietByRules before r) where
   abbrev next_x : Member
   next_x = record x { router = n }
 
@@ -138,9 +138,9 @@ pub record StayLaws : Type 0 where
   pub moment : MomentIsNow
 
 module _ (laws : StayLaws) (before after : Parts) (replays : IsReplayed before) (place : ℕ) (r next : Member) (here : IsMemberAt place before after r next)
-    (runs : IsRunning before r) (settled : IsSettled before r) (quiet : IsQuiet before r) where
+    (runs : IsRunning before r) (settled : IsSettledByRules before r) (quiet : IsQuietByRules before r) where
   -- where the set is still, the router stays
-  pub stays_where_still : AreStill before after r → IsSettled after next × IsQuiet after next × KeepAssignments before after r next
+  pub stays_where_still : AreStill before after r → IsSettledByRules after next × IsQuietByRules after next × KeepAssignments before after r next
   stays_where_still are =
       let self = itself before r (known_of laws.worlds before r replays runs settled) in (
         settled_now laws.rests.unique before after r next place here are self settled,

@@ -26,7 +26,7 @@ use Rattle.hn_audit.specs.declared.witness.Unsettled.TheVariants as cause
 use Rattle.hn_audit.specs.First.{IsFirstFound, OrElse}
 use Rattle.hn_audit.specs.Reached.{runs_as, IsOfOne, IsOnLink, AreOnOneLink}
 use Rattle.hn_audit.specs.Set.{is_in_set, set_of, PlainSpot, spots_in, HasOn}
-use Rattle.hn_audit.specs.Settled.{AreLinked, HoldsState, IsSameEndpoint, UseSame}
+use Rattle.hn_audit.specs.Settled.{AreLinkedByRules, HoldsState, IsSameEndpoint, UseSame}
 use Rattle.hn_audit.specs.Witness.{Outlook}
 
 -- ---- why a router is not settled
@@ -82,13 +82,13 @@ FindsStranger reach spots m (Some u) = RunsOutside reach m × IsFirstFound (Find
 pub record IsUnseenPair (a b : PlainSpot) : Type 0 where
   pub on_one_link : a.link ≡ b.link
   pub apart : ¬ IsSameEndpoint a.member.router a.endpoint b.member.router b.endpoint
-  pub unlinked : ¬ AreLinked a.member.router a.endpoint b.member.router b.endpoint
+  pub unlinked : ¬ AreLinkedByRules a.member.router a.endpoint b.member.router b.endpoint
 
 -- attached endpoints on one link, if they are two, are linked
 abbrev pub IsSeenPair : PlainSpot → PlainSpot → Type 0
 IsSeenPair a b =
     a.link ≡ b.link → ¬ IsSameEndpoint a.member.router a.endpoint b.member.router b.endpoint
-    → AreLinked a.member.router a.endpoint b.member.router b.endpoint
+    → AreLinkedByRules a.member.router a.endpoint b.member.router b.endpoint
 
 abbrev pub FindsUnseen : PlainSpot → PlainSpot → Option Unsettled → Type 0
 FindsUnseen a b None = IsSeenPair a b
@@ -98,14 +98,14 @@ FindsUnseen a b (Some u) = (u ≡ cause.NotLinked a.member.name a.endpoint b.mem
 pub record IsUntrueOf (s : Member) (peer : PeerLink) (o : Member) : Type 0 where
   pub of_other : peer.peer ≡ o.router.id
   pub apart : ¬ IsSameEndpoint s.router peer.endpoint o.router peer.peer_endpoint
-  pub linked : AreLinked s.router peer.endpoint o.router peer.peer_endpoint
+  pub linked : AreLinkedByRules s.router peer.endpoint o.router peer.peer_endpoint
   pub on_no_link : ¬ AreOnOneLink s peer.endpoint o peer.peer_endpoint
 
 -- if a peer of s is an endpoint of o, and another than that of s, and they are linked, then they are on one link
 abbrev pub IsTrueOf : Member → PeerLink → Member → Type 0
 IsTrueOf s peer o =
     peer.peer ≡ o.router.id → ¬ IsSameEndpoint s.router peer.endpoint o.router peer.peer_endpoint
-    → AreLinked s.router peer.endpoint o.router peer.peer_endpoint
+    → AreLinkedByRules s.router peer.endpoint o.router peer.peer_endpoint
     → AreOnOneLink s peer.endpoint o peer.peer_endpoint
 
 abbrev pub FindsUntrue : Member → PeerLink → Member → Option Unsettled → Type 0

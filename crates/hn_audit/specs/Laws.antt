@@ -14,10 +14,10 @@ use Rattle.hn_world.specs.declared.member.Member.{Member}
 use Rattle.hn_world.specs.declared.parts.Parts.{Parts}
 use Rattle.hn_world.specs.Replay.{Replays, IsReplayed, Always}
 use Rattle.hn_audit.specs.Reached.{IsRunning, IsReached}
-use Rattle.hn_audit.specs.Settled.{IsSettled}
-use Rattle.hn_audit.specs.Quiet.{IsQuiet, IsRouterAtRest}
+use Rattle.hn_audit.specs.Settled.{IsSettledByRules}
+use Rattle.hn_audit.specs.Quiet.{IsQuietByRules, IsRouterAtRest}
 use Rattle.hn_audit.specs.Fixed.{Comes, IsRunAnew}
-use Rattle.hn_audit.specs.Sound.{Joint, IsThere, ElectSame, IsSound}
+use Rattle.hn_audit.specs.Sound.{Joint, IsThereByRules, ElectSame, IsSoundByRules}
 use Rattle.hn_audit.specs.declared.witness.Unquiet.{Unquiet}
 use Rattle.hn_audit.specs.declared.witness.Unsettled.{Unsettled}
 use Rattle.hn_audit.specs.First.{FindsOne}
@@ -26,17 +26,17 @@ use Rattle.hn_audit.specs.Witness.{Refutes, Disturbs}
 
 -- In a replayed world a running router that is settled and quiet is sound.
 abbrev pub SettledAndQuietIsSound : Type 0
-SettledAndQuietIsSound = (w : Parts) (r : Member) → IsReplayed w → IsRunning w r → IsSettled w r → IsQuiet w r → IsSound w r
+SettledAndQuietIsSound = (w : Parts) (r : Member) → IsReplayed w → IsRunning w r → IsSettledByRules w r → IsQuietByRules w r → IsSoundByRules w r
 
 -- on each link of the world that is one of the set of r the elections are equal
 abbrev pub ElectAlike : Parts → Member → Type 0
 ElectAlike w r =
-    (letter : Letter) (place : ℕ) (s u : Member) (e f : EpId) → IsThere w r (Joint place) s e → IsThere w r (Joint place) u f
+    (letter : Letter) (place : ℕ) (s u : Member) (e f : EpId) → IsThereByRules w r (Joint place) s e → IsThereByRules w r (Joint place) u f
     → ElectSame s.router e u.router f letter
 
 -- so it is for each running router that is settled, quiet or not
 abbrev pub SettledElectAlike : Parts → Type 0
-SettledElectAlike w = (r : Member) → IsRunning w r → IsSettled w r → ElectAlike w r
+SettledElectAlike w = (r : Member) → IsRunning w r → IsSettledByRules w r → ElectAlike w r
 
 -- So it is in a replayed world.
 abbrev pub ReplayedElectAlike : Type 0
@@ -49,11 +49,11 @@ AlwaysSettledElectAlike = (w : Parts) → IsReplayed w → Always SettledElectAl
 -- In a replayed world a running router that is settled is sound if and only if each of its set is.
 abbrev pub SetIsSoundAlike : Type 0
 SetIsSoundAlike =
-    (w : Parts) (r : Member) → IsReplayed w → IsRunning w r → IsSettled w r
-    → IsSound w r ↔ ((s : Member) → IsReached w r s → IsSound w s)
+    (w : Parts) (r : Member) → IsReplayed w → IsRunning w r → IsSettledByRules w r
+    → IsSoundByRules w r ↔ ((s : Member) → IsReached w r s → IsSoundByRules w s)
 
 -- s, one of the set of r, sees each of the set as it is, and sees nobody else
-pub record AreSeen (w : Parts) (r s : Member) : Type 0 where
+pub record SeesTheSet (w : Parts) (r s : Member) : Type 0 where
   pub each_member :
       (u : Member) → IsReached w r u
       → (n : Entry) × Contains (view_of s.router) n × (n.id ≡ u.router.id) × (n.body ≡ u.router.own.body)
@@ -67,15 +67,15 @@ pub record AreSeen (w : Parts) (r s : Member) : Type 0 where
 -- In a replayed world, of the set of a running router that is settled, each sees each other as it is, and nobody else.
 abbrev pub SettledSeeEachOther : Type 0
 SettledSeeEachOther =
-    (w : Parts) (r s : Member) → IsReplayed w → IsRunning w r → IsSettled w r → IsReached w r s → AreSeen w r s
+    (w : Parts) (r s : Member) → IsReplayed w → IsRunning w r → IsSettledByRules w r → IsReached w r s → SeesTheSet w r s
 
 -- each running router that is settled and quiet is sound
-abbrev pub SettledAreSound : Parts → Type 0
-SettledAreSound w = (r : Member) → IsRunning w r → IsSettled w r → IsQuiet w r → IsSound w r
+abbrev pub SettledAreSoundByRules : Parts → Type 0
+SettledAreSoundByRules w = (r : Member) → IsRunning w r → IsSettledByRules w r → IsQuietByRules w r → IsSoundByRules w r
 
 -- At each moment of a replayed world's past each running router that is settled and quiet is sound.
 abbrev pub AlwaysSettledAreSound : Type 0
-AlwaysSettledAreSound = (w : Parts) → IsReplayed w → Always SettledAreSound w
+AlwaysSettledAreSound = (w : Parts) → IsReplayed w → Always SettledAreSoundByRules w
 
 -- what held at each moment of a world's past held at each moment of the past of a world that a front of its trace leads to
 abbrev pub IsOfEachFront : (Parts → Type 0) → Type 0
@@ -107,11 +107,11 @@ AnewHasARun = (s : State) → IsRouter s → Comes s
 
 -- What a witness says refutes that a router is settled.
 abbrev pub WitnessRefutesSettled : Type 0
-WitnessRefutesSettled = (w : Parts) (r : Member) (witness : Unsettled) → Refutes w r witness → ¬ IsSettled w r
+WitnessRefutesSettled = (w : Parts) (r : Member) (witness : Unsettled) → Refutes w r witness → ¬ IsSettledByRules w r
 
 -- And that it is quiet.
 abbrev pub WitnessRefutesQuiet : Type 0
-WitnessRefutesQuiet = (w : Parts) (r : Member) (witness : Unquiet) → Disturbs w r witness → ¬ IsQuiet w r
+WitnessRefutesQuiet = (w : Parts) (r : Member) (witness : Unquiet) → Disturbs w r witness → ¬ IsQuietByRules w r
 
 -- a router of the set of r is not at rest
 abbrev pub HasRestless : Parts → Member → Type 0

@@ -27,5 +27,5 @@ pub record IsRouterAtRest (s : State) : Type 0 where
   pub at_rest : AreAtRest advertised s.id.0 wishes s.held.assigned
 
 -- each of the set of r is at rest
-abbrev pub IsQuiet : Parts → Member → Type 0
-IsQuiet w r = (s : Member) → IsReached w r s → IsRouterAtRest s.router
+abbrev pub IsQuietByRules : Parts → Member → Type 0
+IsQuietByRules w r = (s : Member) → IsReached w r s → IsRouterAtRest s.router

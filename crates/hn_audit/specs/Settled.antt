@@ -34,14 +34,14 @@ pub record UseSame (s u : State) : Type 0 where
   pub same : AreSame one other
 
 -- endpoints of two routers are linked, as their node data say
-abbrev pub AreLinked : State → EpId → State → EpId → Type 0
-AreLinked s e u f = IsLinked s.own.body s.id.0 e.0 u.own.body u.id.0 f.0
+abbrev pub AreLinkedByRules : State → EpId → State → EpId → Type 0
+AreLinkedByRules s e u f = IsLinked s.own.body s.id.0 e.0 u.own.body u.id.0 f.0
 
 -- the same endpoint of the same node
 abbrev pub IsSameEndpoint : State → EpId → State → EpId → Type 0
 IsSameEndpoint s e u f = (s.id ≡ u.id) × (e ≡ f)
 
-pub record IsSettled (w : Parts) (r : Member) : Type 0 where
+pub record IsSettledByRules (w : Parts) (r : Member) : Type 0 where
   -- each identifier that r reaches is that of exactly one running router
   pub known : All (IsOfOne w) r.router.reach
   -- each of the set reaches the same
@@ -57,4 +57,4 @@ pub record IsSettled (w : Parts) (r : Member) : Type 0 where
   -- two endpoints of the set are linked if and only if both are attached to one link
   pub linked :
       (s u : Member) (e f : EpId) → IsReached w r s → IsReached w r u → ¬ IsSameEndpoint s.router e u.router f
-      → AreLinked s.router e u.router f ↔ AreOnOneLink s e u f
+      → AreLinkedByRules s.router e u.router f ↔ AreOnOneLink s e u f

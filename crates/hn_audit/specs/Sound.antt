@@ -20,13 +20,13 @@ use Rattle.hn_world.specs.declared.parts.Parts.{Parts}
 use Rattle.hn_audit.specs.Reached.{IsRunning, IsReached, IsOnLink}
 
 -- a router uses the delegated prefix
-pub record Uses (s : State) (d : PlainPrefix) : Type 0 where
+pub record UsesByRules (s : State) (d : PlainPrefix) : Type 0 where
   pub usable : List Delegated
   pub are_usable : AreUsable (seen_by s) usable
   pub there : Contains (prefixes_of usable) d
 
 -- a router uses the delegated prefix, and does not want it
-pub record DoesNotWant (s : State) (d : PlainPrefix) : Type 0 where
+pub record DoesNotWantByRules (s : State) (d : PlainPrefix) : Type 0 where
   pub usable : List Delegated
   pub are_usable : AreUsable (seen_by s) usable
   pub place : ℕ
@@ -34,7 +34,7 @@ pub record DoesNotWant (s : State) (d : PlainPrefix) : Type 0 where
   pub unwanted : IsUnwanted usable place
 
 -- nothing in the delegated prefix is free for the post, as its router sees it
-pub record SeesNoFree (s : State) (e : EpId) (d : PlainPrefix) : Type 0 where
+pub record SeesNoFreeByRules (s : State) (e : EpId) (d : PlainPrefix) : Type 0 where
   pub advertised : List Advertised
   pub are_advertised : AreAdvertised (seen_by s) s.held.assigned advertised
   pub none_free : HasNoFree advertised d (length_at s.private e)
@@ -58,7 +58,7 @@ pub record IsLinkOfSet (w : Parts) (r : Member) (link : Link) : Type 0 where
   pub on_link : IsPostOn link router post
 
 -- a post of a running router is on the link, which is one of the set of r
-pub record IsThere (w : Parts) (r : Member) (link : Link) (s : Member) (e : EpId) : Type 0 where
+pub record IsThereByRules (w : Parts) (r : Member) (link : Link) (s : Member) (e : EpId) : Type 0 where
   pub runs : IsRunning w s
   pub on_link : IsPostOn link s e
   pub of_set : IsLinkOfSet w r link
@@ -71,30 +71,30 @@ pub record HasAssignment (s : State) (e : EpId) (d : PlainPrefix) (c : Assigned)
 
 -- each post on the link has an assignment for d, all with one prefix, and exactly one of them is published
 pub record IsServedLink (w : Parts) (r : Member) (link : Link) (d : PlainPrefix) : Type 0 where
-  pub every : (s : Member) (e : EpId) → IsThere w r link s e → (c : Assigned) × HasAssignment s.router e d c
+  pub every : (s : Member) (e : EpId) → IsThereByRules w r link s e → (c : Assigned) × HasAssignment s.router e d c
   pub prefix : PlainPrefix
   pub one_prefix :
-      (s : Member) (e : EpId) (c : Assigned) → IsThere w r link s e → HasAssignment s.router e d c → c.prefix ≡ prefix
+      (s : Member) (e : EpId) (c : Assigned) → IsThereByRules w r link s e → HasAssignment s.router e d c → c.prefix ≡ prefix
   pub publisher : Member
   pub post : EpId
-  pub there : IsThere w r link publisher post
+  pub there : IsThereByRules w r link publisher post
   pub assignment : Assigned
   pub has : HasAssignment publisher.router post d assignment
   pub published : IsSome assignment.published
   pub no_other :
-      (s : Member) (e : EpId) (c : Assigned) → IsThere w r link s e → HasAssignment s.router e d c → IsSome c.published
+      (s : Member) (e : EpId) (c : Assigned) → IsThereByRules w r link s e → HasAssignment s.router e d c → IsSome c.published
       → (s ≡ publisher) × (e ≡ post) × (c ≡ assignment)
 
 -- no post on the link has an assignment for d, and for each its router does not want d or sees nothing free in it
 pub record IsWithout (w : Parts) (r : Member) (link : Link) (d : PlainPrefix) : Type 0 where
-  pub none : (s : Member) (e : EpId) (c : Assigned) → IsThere w r link s e → ¬ HasAssignment s.router e d c
-  pub no_use : (s : Member) (e : EpId) → IsThere w r link s e → DoesNotWant s.router d ⊎ SeesNoFree s.router e d
+  pub none : (s : Member) (e : EpId) (c : Assigned) → IsThereByRules w r link s e → ¬ HasAssignment s.router e d c
+  pub no_use : (s : Member) (e : EpId) → IsThereByRules w r link s e → DoesNotWantByRules s.router d ⊎ SeesNoFreeByRules s.router e d
 
 -- a post on the link, which is one of the set of r, has the prefix
 pub record IsHeldOn (w : Parts) (r : Member) (link : Link) (p : PlainPrefix) : Type 0 where
   pub router : Member
   pub assignment : Assigned
-  pub there : IsThere w r link router assignment.endpoint
+  pub there : IsThereByRules w r link router assignment.endpoint
   pub held : Contains router.router.held.assigned assignment
   pub prefix : assignment.prefix ≡ p
 
@@ -104,14 +104,14 @@ pub record ElectSame (s : State) (e : EpId) (u : State) (f : EpId) (letter : Let
   pub one : IsElectedAt s e letter who
   pub other : IsElectedAt u f letter who
 
-pub record IsSound (w : Parts) (r : Member) : Type 0 where
+pub record IsSoundByRules (w : Parts) (r : Member) : Type 0 where
   -- each assignment of the set is for a used delegated prefix, and its prefix is inside that
   pub inside :
       (s : Member) (c : Assigned) → IsReached w r s → Contains s.router.held.assigned c
-      → Uses r.router c.delegated × IsWithin c.prefix c.delegated
+      → UsesByRules r.router c.delegated × IsWithin c.prefix c.delegated
   -- each link of the set is served inside each used delegated prefix, or has no use of it
   pub each_link :
-      (link : Link) (s : Member) (e : EpId) (d : PlainPrefix) → IsThere w r link s e → Uses r.router d
+      (link : Link) (s : Member) (e : EpId) (d : PlainPrefix) → IsThereByRules w r link s e → UsesByRules r.router d
       → IsServedLink w r link d ⊎ IsWithout w r link d
   -- prefixes on different links do not overlap
   pub links_apart :
@@ -119,5 +119,5 @@ pub record IsSound (w : Parts) (r : Member) : Type 0 where
       → ¬ Overlaps p q
   -- on one link of the world the elections are equal
   pub one_elected :
-      (letter : Letter) (place : ℕ) (s u : Member) (e f : EpId) → IsThere w r (Joint place) s e → IsThere w r (Joint place) u f
+      (letter : Letter) (place : ℕ) (s u : Member) (e f : EpId) → IsThereByRules w r (Joint place) s e → IsThereByRules w r (Joint place) u f
       → ElectSame s.router e u.router f letter

@@ -19,8 +19,8 @@ use Rattle.hn_world.specs.Names.{router_place}
 use Rattle.hn_world.specs.Replay.{IsReplayed, Throughout}
 use Rattle.hn_world.specs.Step.{Step}
 use Rattle.hn_audit.specs.Reached.{IsRunning, IsReached}
-use Rattle.hn_audit.specs.Settled.{IsSettled, UseSame}
-use Rattle.hn_audit.specs.Quiet.{IsQuiet}
+use Rattle.hn_audit.specs.Settled.{IsSettledByRules, UseSame}
+use Rattle.hn_audit.specs.Quiet.{IsQuietByRules}
 
 -- the router of a place before and after
 pub record IsMemberAt (place : ℕ) (before after : Parts) (m next : Member) : Type 0 where
@@ -79,8 +79,8 @@ KeepAssignments before after r next =
 abbrev pub QuietStays : WEvent → Parts → Parts → Type 0
 QuietStays event before after =
     (place : ℕ) (r next : Member) → IsMemberAt place before after r next
-    → IsRunning before r → IsSettled before r → IsQuiet before r → IsCalm event before after r
-    → IsSettled after next × IsQuiet after next × KeepAssignments before after r next
+    → IsRunning before r → IsSettledByRules before r → IsQuietByRules before r → IsCalm event before after r
+    → IsSettledByRules after next × IsQuietByRules after next × KeepAssignments before after r next
 
 -- So it is over each event that a replayed world accepts.
 abbrev pub QuietHomesStay : Type 0

@@ -26,7 +26,7 @@ use Rattle.hn_audit.specs.declared.witness.Unquiet.TheVariants as act
 use Rattle.hn_audit.specs.declared.witness.Unsettled.{Unsettled}
 use Rattle.hn_audit.specs.declared.witness.Unsettled.TheVariants as cause
 use Rattle.hn_audit.specs.Reached.{runs_as, IsRunning, IsReached, IsOnLink, AreOnOneLink}
-use Rattle.hn_audit.specs.Settled.{AreLinked, IsSameEndpoint, UseSame}
+use Rattle.hn_audit.specs.Settled.{AreLinkedByRules, IsSameEndpoint, UseSame}
 use Rattle.hn_audit.specs.Sound.{HasAssignment}
 
 -- one of the set of r, which has the name
@@ -108,12 +108,12 @@ pub record AreTwo (w : Parts) (r : Member) (router : Name) (e : EpId) (other : N
 pub record AreUnlinked (w : Parts) (r : Member) (router : Name) (e : EpId) (other : Name) (f : EpId) : Type 0 where
   pub two : AreTwo w r router e other f
   pub on_one_link : AreOnOneLink two.one e two.another f
-  pub unlinked : ¬ AreLinked two.one.router e two.another.router f
+  pub unlinked : ¬ AreLinkedByRules two.one.router e two.another.router f
 
 -- they are linked, and not on one link
 pub record AreElsewhere (w : Parts) (r : Member) (router : Name) (e : EpId) (other : Name) (f : EpId) : Type 0 where
   pub two : AreTwo w r router e other f
-  pub linked : AreLinked two.one.router e two.another.router f
+  pub linked : AreLinkedByRules two.one.router e two.another.router f
   pub on_no_link : ¬ AreOnOneLink two.one e two.another f
 
 -- what a witness says, by which r is not settled

@@ -5,11 +5,11 @@ ghost use Rattle.hn_world.specs.declared.parts.Parts.{Parts};
 ghost use Rattle.hn_world.specs.Names.{member_named};
 ghost use Rattle.hn_audit.specs.FirstWitness.{IsFirstUnsettled, IsFirstUnquiet};
 ghost use Rattle.hn_audit.specs.Fixed.{ChangesNothing, IsFixed, MayChangeNothing, SomeActs};
-ghost use Rattle.hn_audit.specs.Quiet.{IsQuiet};
+ghost use Rattle.hn_audit.specs.Quiet.{IsQuietByRules};
 ghost use Rattle.hn_audit.specs.Reached.{runs};
 ghost use Rattle.hn_audit.specs.Set.{is_in_set};
-ghost use Rattle.hn_audit.specs.Settled.{IsSettled};
-ghost use Rattle.hn_audit.specs.Sound.{IsSound};
+ghost use Rattle.hn_audit.specs.Settled.{IsSettledByRules};
+ghost use Rattle.hn_audit.specs.Sound.{IsSoundByRules};
 ghost use Rattle.hn_audit.specs.Witness.{Refutes, Disturbs};
 
 use crate::knowing::first_unlike;
@@ -45,7 +45,7 @@ pub trait Audit {
     fn unsettled(&self, alloc: Global, name: &Name) -> Result<Option<Unsettled>, NoMemory>
         requires { IsTrue (runs (name_text name.now) (parts self.now)) }
         ensures none { IfOk result (λ witness. (r : Member) → member_named (name_text name.now) (parts self.now) ≡ Some r
-            → (witness ≡ None) ↔ IsSettled (parts self.now) r) }
+            → (witness ≡ None) ↔ IsSettledByRules (parts self.now) r) }
         ensures some { IfOk result (λ witness. (r : Member) → member_named (name_text name.now) (parts self.now) ≡ Some r
             → IfSome witness (Refutes (parts self.now) r)) }
         ensures first { IfOk result (λ witness. (r : Member) → member_named (name_text name.now) (parts self.now) ≡ Some r
@@ -59,7 +59,7 @@ pub trait Audit {
     fn settled(&self, alloc: Global, name: &Name) -> Result<bool, NoMemory>
         requires { IsTrue (runs (name_text name.now) (parts self.now)) }
         ensures { IfOk result (λ answer. (r : Member) → member_named (name_text name.now) (parts self.now) ≡ Some r
-            → IsTrue answer ↔ IsSettled (parts self.now) r) };
+            → IsTrue answer ↔ IsSettledByRules (parts self.now) r) };
 
     /// Why a running router is not quiet: the first witness in the order of its set; `None` if and only if it is quiet.
     ///
@@ -69,7 +69,7 @@ pub trait Audit {
     fn unquiet(&self, alloc: Global, name: &Name) -> Result<Option<Unquiet>, NoMemory>
         requires { IsTrue (runs (name_text name.now) (parts self.now)) }
         ensures none { IfOk result (λ witness. (r : Member) → member_named (name_text name.now) (parts self.now) ≡ Some r
-            → (witness ≡ None) ↔ IsQuiet (parts self.now) r) }
+            → (witness ≡ None) ↔ IsQuietByRules (parts self.now) r) }
         ensures some { IfOk result (λ witness. (r : Member) → member_named (name_text name.now) (parts self.now) ≡ Some r
             → IfSome witness (Disturbs (parts self.now) r)) }
         ensures first { IfOk result (λ witness. (r : Member) → member_named (name_text name.now) (parts self.now) ≡ Some r
@@ -89,7 +89,7 @@ pub trait Audit {
     fn quiet(&self, alloc: Global, name: &Name) -> Result<bool, NoMemory>
         requires { IsTrue (runs (name_text name.now) (parts self.now)) }
         ensures quiet { IfOk result (λ answer. (r : Member) → member_named (name_text name.now) (parts self.now) ≡ Some r
-            → IsTrue answer ↔ IsQuiet (parts self.now) r) }
+            → IsTrue answer ↔ IsQuietByRules (parts self.now) r) }
         ensures unchanged { IfOk result (λ answer. (r : Member) → member_named (name_text name.now) (parts self.now) ≡ Some r
             → IsTrue answer ↔ ChangesNothing (parts self.now) r) }
         ensures acts { IfOk result (λ answer. (r : Member) → member_named (name_text name.now) (parts self.now) ≡ Some r
@@ -99,7 +99,7 @@ pub trait Audit {
         ensures any_words { IfOk result (λ answer. (r : Member) → member_named (name_text name.now) (parts self.now) ≡ Some r
             → MayChangeNothing (parts self.now) r → IsTrue answer) }
         ensures sound { IfOk result (λ answer. (r : Member) → member_named (name_text name.now) (parts self.now) ≡ Some r
-            → IsTrue answer → IsSettled (parts self.now) r → IsSound (parts self.now) r) };
+            → IsTrue answer → IsSettledByRules (parts self.now) r → IsSoundByRules (parts self.now) r) };
 }
 
 /// The first witness by which a router is not settled, if it is not.

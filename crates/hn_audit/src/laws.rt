@@ -2,7 +2,7 @@
 
 ghost use Rattle.hn_world.specs.Leaves.{EqualHashesAgree};
 ghost use Rattle.hn_audit.specs.Laws.{SettledAndQuietIsSound, ReplayedElectAlike, AlwaysSettledElectAlike, SetIsSoundAlike, SettledSeeEachOther};
-ghost use Rattle.hn_audit.specs.Laws.{AlwaysSettledAreSound, IsOfEachFront, SettledAreSound, RestKeepsAssignments};
+ghost use Rattle.hn_audit.specs.Laws.{AlwaysSettledAreSound, IsOfEachFront, SettledAreSoundByRules, RestKeepsAssignments};
 ghost use Rattle.hn_audit.specs.Laws.{RestHasARun, UnchangedIsAtRest, AnewHasARun, WitnessRefutesSettled, WitnessRefutesQuiet, WitnessNamesRestless, UnsettledIsOne, UnquietIsOne};
 ghost use Rattle.hn_audit.specs.Calm.{SettledHaveOneHash, QuietStaysOverDeliveries, RestGoesOn, RestLasts};
 ghost use Rattle.hn_audit.specs.Heard.{RestLastsWhileHeard, RoundRenews, RestGoesInRounds, RestGoesInTurns};
@@ -120,7 +120,7 @@ pub fn settled_are_always_sound()
 /// of the past of a world that a front of its trace leads to. So it is of both parts of the headline: that settled and
 /// quiet routers are sound, and that equal network state hashes are those of equal node data.
 pub fn headline_of_each_front()
-    ensures sound { IsOfEachFront SettledAreSound }
+    ensures sound { IsOfEachFront SettledAreSoundByRules }
     ensures agree { IsOfEachFront EqualHashesAgree }
 {
     at_most_one_world();

@@ -6,7 +6,7 @@ ghost use Rattle.hn_audit.specs.First.{IsFirstFound};
 ghost use Rattle.hn_audit.specs.FirstWitness.{FindsNear, FindsStranger, IsSeenPair, IsUnseenPair, FindsUnseen, IsTrueOf, IsUntrueOf, FindsUntrue, FindsOfPeers, FindsOnLinks};
 ghost use Rattle.hn_audit.specs.Reached.{AreOnOneLink};
 ghost use Rattle.hn_audit.specs.Set.{members_of, plain_spot, plain_spots, spot_at, spots_at, spots_in, HasOn, IsNearLink};
-ghost use Rattle.hn_audit.specs.Settled.{AreLinked, IsSameEndpoint};
+ghost use Rattle.hn_audit.specs.Settled.{AreLinkedByRules, IsSameEndpoint};
 
 use crate::reached::is_in_set;
 use crate::witness::Unsettled;
@@ -129,7 +129,7 @@ fn are_on_one_link(s: &Member, e: EpId, u: &Member, f: EpId) -> bool
 
 /// Whether endpoints of two routers are linked, as their node data say.
 fn are_linked(s: &Router, e: EpId, u: &Router, f: EpId) -> bool
-    ensures { IsTrue result ↔ AreLinked s.now e u.now f }
+    ensures { IsTrue result ↔ AreLinkedByRules s.now e u.now f }
 {
     linked(s.body(), s.id(), e, u.body(), u.id(), f)
 }

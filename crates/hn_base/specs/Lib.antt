@@ -19,3 +19,4 @@ pub mod Shared
 pub mod Sooner
 pub mod Splits
 pub mod Words
+pub mod YesNo

@@ -13,12 +13,12 @@ use Rattle.hn_router.specs.Laws.{OneResult}
 use Rattle.hn_kept.specs.declared.preferred.Preferred.{Preferred}
 use Rattle.hn_kept.specs.Preferred.{word_of, is_missed, is_kept}
 use Rattle.hn_kept.specs.Words.{listed_word, AreDrawn}
-use Rattle.hn_kept.specs.Choosing.{PlainAsked, ComesTo, kept_in, IsNoBetter, AreBest, AreChosen}
+use Rattle.hn_kept.specs.Choosing.{PlainAsked, EventComesTo, kept_in, IsNoBetter, AreBest, AreChosen}
 use Rattle.hn_kept.proofs.Stream.{begins_listed, begins_taken}
 use Rattle.hn_kept.proofs.DrawnWords.{drawn_first, drawn_with, none_drawn}
 
 -- over one stream an event comes to one result
-same_result : OneResult → (ask : PlainAsked) (stream : ℕ → ℕ) (words : List ℕ) (next other : State) (done : Done) → (comes : ComesTo ask stream words next)
+same_result : OneResult → (ask : PlainAsked) (stream : ℕ → ℕ) (words : List ℕ) (next other : State) (done : Done) → (comes : EventComesTo ask stream words next)
     → Happened ask.moment ask.event ask.router other done → Begins done.words stream → (next ≡ other) × (comes.done ≡ done)
 same_result one ask stream words next other done comes happened begins =
     one ask.moment ask.event ask.router next other comes.done done stream comes.happened happened
@@ -26,13 +26,13 @@ same_result one ask stream words next other done comes happened begins =
 
 -- a word that was tried is no better where no more are kept
 pub no_better : OneResult → (ask : PlainAsked) (words : List ℕ) (kept : ℕ) (f : Preferred) (place : ℕ) (next : State) (taken : List ℕ)
-    → ComesTo ask (listed_word (set words place (word_of f)) ask.words) taken next → kept_in ask next ≤ kept → IsNoBetter ask words kept f place
+    → EventComesTo ask (listed_word (set words place (word_of f)) ask.words) taken next → kept_in ask next ≤ kept → IsNoBetter ask words kept f place
 no_better one ask words kept f place next taken comes few other done happened begins =
     let same = same_result one ask (listed_word (set words place (word_of f)) ask.words) taken next other done comes happened begins in
     subst (λ (s : State). kept_in ask s ≤ kept) same.0 few
 
 -- words come to themselves
-pub comes_again : (ask : PlainAsked) (stream : ℕ → ℕ) (words : List ℕ) (next : State) → ComesTo ask stream words next → ComesTo ask (listed_word words ask.words) words next
+pub comes_again : (ask : PlainAsked) (stream : ℕ → ℕ) (words : List ℕ) (next : State) → EventComesTo ask stream words next → EventComesTo ask (listed_word words ask.words) words next
 comes_again ask stream words next comes =
     record { done = comes.done; happened = comes.happened; words_are = comes.words_are; begins = begins_listed words ask.words }
 
@@ -47,7 +47,7 @@ best_of_chosen one ask words chosen next done happened begins =
 -- what was planned comes to the words of the plan
 pub comes_of_plan : (ask : PlainAsked) (stream : ℕ → ℕ) (told_after : Option (ℕ → ℕ)) (plan : PlainPlan) (next : State) (done : Done)
     → Happened ask.moment ask.event ask.router plan.state plan.done → Took (Some stream) plan.done.words told_after → next ≡ plan.state → done ≡ plan.done
-    → ComesTo ask stream done.words next
+    → EventComesTo ask stream done.words next
 comes_of_plan ask stream told_after plan next done happened took is_next is_done = record {
   done = plan.done;
   happened = subst (λ (s : State). Happened ask.moment ask.event ask.router s plan.done) (sym is_next) happened;
@@ -57,18 +57,18 @@ comes_of_plan ask stream told_after plan next done happened took is_next is_done
 
 -- a word that is tried is that of a place
 pub tried : (ask : PlainAsked) (words listed others : List ℕ) (place word : ℕ) (f : Preferred) (taken : List ℕ) (next : State)
-    → listed ≡ others → others ≡ set words place word → word ≡ word_of f → ComesTo ask (listed_word listed ask.words) taken next
-    → ComesTo ask (listed_word (set words place (word_of f)) ask.words) taken next
+    → listed ≡ others → others ≡ set words place word → word ≡ word_of f → EventComesTo ask (listed_word listed ask.words) taken next
+    → EventComesTo ask (listed_word (set words place (word_of f)) ask.words) taken next
 tried ask words listed others place word f taken next same with of comes =
-    subst (λ (ls : List ℕ). ComesTo ask (listed_word ls ask.words) taken next) (same ∙ with ∙ ap (set words place) of) comes
+    subst (λ (ls : List ℕ). EventComesTo ask (listed_word ls ask.words) taken next) (same ∙ with ∙ ap (set words place) of) comes
 
 pub drawn_tried : (ask : PlainAsked) (words : List ℕ) (place : ℕ) (f : Preferred) (taken : List ℕ) (next : State) → Contains ask.preferred f → AreDrawn ask.preferred ask.words words
-    → ComesTo ask (listed_word (set words place (word_of f)) ask.words) taken next → AreDrawn ask.preferred ask.words taken
+    → EventComesTo ask (listed_word (set words place (word_of f)) ask.words) taken next → AreDrawn ask.preferred ask.words taken
 drawn_tried ask words place f taken next there drawn comes =
     drawn_first ask.preferred (set words place (word_of f)) ask.words taken (drawn_with ask.preferred ask.words words place (word_of f) (f, there, refl) drawn) comes.begins
 
 -- of none but the generator's words
-pub drawn_own : (ask : PlainAsked) (listed taken : List ℕ) (next : State) → listed ≡ [] → ComesTo ask (listed_word listed ask.words) taken next → AreDrawn ask.preferred ask.words taken
+pub drawn_own : (ask : PlainAsked) (listed taken : List ℕ) (next : State) → listed ≡ [] → EventComesTo ask (listed_word listed ask.words) taken next → AreDrawn ask.preferred ask.words taken
 drawn_own ask listed taken next none comes =
     drawn_first ask.preferred [] ask.words taken (none_drawn ask.preferred ask.words)
     (subst (λ (ls : List ℕ). Begins taken (listed_word ls ask.words)) none comes.begins)
@@ -116,7 +116,7 @@ each_of P xs x all there = All-contains P xs x all there
 
 -- where no other word is better the words are chosen
 pub chosen_of : (ask : PlainAsked) (words : List ℕ) (next : State) (kept : ℕ) (missed : List Preferred)
-    → ComesTo ask (listed_word words ask.words) words next → AreDrawn ask.preferred ask.words words → kept ≡ kept_in ask next
+    → EventComesTo ask (listed_word words ask.words) words next → AreDrawn ask.preferred ask.words words → kept ≡ kept_in ask next
     → missed ≡ filter (is_missed ask.moment next.held.assigned) ask.preferred
     → (length missed * length words ≤ 1024 → All (λ f. (place : ℕ) → place < length words → IsNoBetter ask words kept f place) missed) → AreChosen ask words
 chosen_of ask words next kept missed comes drawn kept_is missed_are none =

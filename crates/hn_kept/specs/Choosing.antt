@@ -23,7 +23,7 @@ abbrev pub plain_asked : Asked → PlainAsked
 plain_asked a = record { moment = a.moment; event = plain_event a.event.now; router = a.router.now; words = a.words.now; preferred = a.preferred.now }
 
 -- over a stream the event takes these words, and leaves this of the router
-pub record ComesTo (ask : PlainAsked) (stream : ℕ → ℕ) (words : List ℕ) (next : State) : Type 0 where
+pub record EventComesTo (ask : PlainAsked) (stream : ℕ → ℕ) (words : List ℕ) (next : State) : Type 0 where
   pub done : Done
   pub happened : Happened ask.moment ask.event ask.router next done
   pub words_are : done.words ≡ words
@@ -54,6 +54,6 @@ AreBest ask words next =
 -- the words that are chosen
 pub record AreChosen (ask : PlainAsked) (words : List ℕ) : Type 0 where
   pub next : State
-  pub comes : ComesTo ask (listed_word words ask.words) words next
+  pub comes : EventComesTo ask (listed_word words ask.words) words next
   pub drawn : AreDrawn ask.preferred ask.words words
   pub best : AreBest ask words next

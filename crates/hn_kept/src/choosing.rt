@@ -3,7 +3,7 @@
 
 ghost use Rattle.std.specs.Prelude.{◌≡◌, ℕ, ◌*◌, ◌^◌, ◌<◌, ◌≤◌, false, length, set, All, Contains, IfOk, IfSome, IfNone};
 ghost use Rattle.hn_router.specs.Act.{plain_event};
-ghost use Rattle.hn_kept.specs.Choosing.{plain_asked, ComesTo, kept_in, IsNoBetter, AreChosen};
+ghost use Rattle.hn_kept.specs.Choosing.{plain_asked, EventComesTo, kept_in, IsNoBetter, AreChosen};
 ghost use Rattle.hn_kept.specs.Words.{listed_word, AreDrawn};
 
 use crate::preferred::{Preferred, kept_count, missed};
@@ -49,7 +49,7 @@ impl Asked<'_> {
     fn come(&self, alloc: Global, listed: &[u32], seen: &mut Router) -> Result<Words, NoMemory>
         requires not_before { self.now.router.now.moment ≤ self.now.moment }
         requires in_range { self.now.moment ≤ 2 ^ 48 }
-        ensures { IfOk result (λ words. ComesTo (plain_asked self.now) (listed_word listed.now self.now.words.now) words seen.new) }
+        ensures { IfOk result (λ words. EventComesTo (plain_asked self.now) (listed_word listed.now self.now.words.now) words seen.new) }
     {
         self.router.is_router();
         event_in_range(self.event);
@@ -83,7 +83,7 @@ impl Asked<'_> {
         requires in_range { self.now.moment ≤ 2 ^ 48 }
         requires preferred { Contains self.now.preferred.now wanted.now }
         requires drawn { AreDrawn self.now.preferred.now self.now.words.now words.now }
-        ensures comes { IfOk result (λ found. IfSome found (λ w. ComesTo (plain_asked self.now) (listed_word w self.now.words.now) w seen.new)) }
+        ensures comes { IfOk result (λ found. IfSome found (λ w. EventComesTo (plain_asked self.now) (listed_word w self.now.words.now) w seen.new)) }
         ensures drawn { IfOk result (λ found. IfSome found (AreDrawn self.now.preferred.now self.now.words.now)) }
         ensures more { IfOk result (λ found. IfSome found (λ w. kept < kept_in (plain_asked self.now) seen.new)) }
         ensures none { IfOk result (λ found. IfNone found ((place : ℕ) → place < length words.now → IsNoBetter (plain_asked self.now) words.now kept wanted.now place)) }
@@ -112,7 +112,7 @@ impl Asked<'_> {
         requires in_range { self.now.moment ≤ 2 ^ 48 }
         requires preferred { All (Contains self.now.preferred.now) missed.now }
         requires drawn { AreDrawn self.now.preferred.now self.now.words.now words.now }
-        ensures comes { IfOk result (λ found. IfSome found (λ w. ComesTo (plain_asked self.now) (listed_word w self.now.words.now) w seen.new)) }
+        ensures comes { IfOk result (λ found. IfSome found (λ w. EventComesTo (plain_asked self.now) (listed_word w self.now.words.now) w seen.new)) }
         ensures drawn { IfOk result (λ found. IfSome found (AreDrawn self.now.preferred.now self.now.words.now)) }
         ensures more { IfOk result (λ found. IfSome found (λ w. kept < kept_in (plain_asked self.now) seen.new)) }
         ensures none { IfOk result (λ found. IfNone found (length missed.now * length words.now ≤ 1024 → All (λ f. (place : ℕ) → place < length words.now → IsNoBetter (plain_asked self.now) words.now kept f place) missed.now)) }

@@ -1,6 +1,6 @@
 -- Two ends of one process agree: they are one, or one of them was cut short and its text is a front of the other's.
 use Rattle.hn_base.proofs.Names.{◌≡◌, ◌∙◌, ◌⊎◌, inl, inr, ℕ, List, [], ◌∷◌, ◌++◌, append_assoc, Option, None, Some, refl, sym, ap, subst, ⊤, same_Some, none-some}
-use Rattle.hn_lab.proofs.Names.{append-nil, Note, Stop, Refused, WireFailed, Cut, IsTold, Process, Nothing, Unless, ThenProcess, EachProcess, Stage, Told}
+use Rattle.hn_lab.proofs.Names.{append-nil, Note, Stop, Refused, WireFailed, Cut, IsKnownRoute, Process, Nothing, Unless, ThenProcess, EachProcess, Stage, Told}
 
 -- ---- texts that grow
 
@@ -53,7 +53,7 @@ both_done a b (SecondIsShort short grows) = absurd short
 
 -- wherever both begin over a route that is told, their ends agree
 abbrev pub AreAlike : Process → Process → Type 0
-AreAlike P Q = (c d : Option Stop) (p a b : Stage) → IsTold p.route → P c p a → Q d p b → Agree c d a b
+AreAlike P Q = (c d : Option Stop) (p a b : Stage) → IsKnownRoute p.route → P c p a → Q d p b → Agree c d a b
 
 -- the text only grows
 abbrev pub OnlyGrows : Process → Type 0
@@ -61,7 +61,7 @@ OnlyGrows P = (c : Option Stop) (p a : Stage) → P c p a → Grows p a
 
 -- what copies come to is known afterwards
 abbrev pub KeepsTold : Process → Type 0
-KeepsTold P = (p a : Stage) → IsTold p.route → P None p a → IsTold a.route
+KeepsTold P = (p a : Stage) → IsKnownRoute p.route → P None p a → IsKnownRoute a.route
 
 pub record IsSole (process : Process) : Type 0 where
   pub one : AreAlike process process
@@ -71,7 +71,7 @@ pub record IsSole (process : Process) : Type 0 where
 -- one that also notes something: where it is done, in one way
 pub record IsSoleNoting (process : List Note → Process) : Type 0 where
   pub one : (m n : List Note) → AreAlike (process m) (process n)
-  pub notes : (m n : List Note) (p a b : Stage) → IsTold p.route → process m None p a → process n None p b → m ≡ n
+  pub notes : (m n : List Note) (p a b : Stage) → IsKnownRoute p.route → process m None p a → process n None p b → m ≡ n
   pub keeps : (n : List Note) → KeepsTold (process n)
   pub grows : (n : List Note) → OnlyGrows (process n)
 
@@ -153,7 +153,7 @@ still_nothing = record {
 pub sole_nothing : IsSole Nothing
 sole_nothing = record {
   one = alike_still (λ p. None) Nothing Nothing still_nothing still_nothing (λ p a b h k. h ∙ sym k);
-  keeps = λ p a told h. subst (λ (s : Stage). IsTold s.route) (sym h) told;
+  keeps = λ p a told h. subst (λ (s : Stage). IsKnownRoute s.route) (sym h) told;
   grows = grows_still (λ p. None) Nothing still_nothing;
 }
 
@@ -173,7 +173,7 @@ still_unless unless = record {
 pub sole_unless : (unless : Option ℕ) → IsSole (Unless unless)
 sole_unless unless = record {
   one = alike_still (λ p. unless) (Unless unless) (Unless unless) (still_unless unless) (still_unless unless) (λ p a b h k. h.1 ∙ sym k.1);
-  keeps = λ p a told h. subst (λ (s : Stage). IsTold s.route) (sym h.1) told;
+  keeps = λ p a told h. subst (λ (s : Stage). IsKnownRoute s.route) (sym h.1) told;
   grows = grows_still (λ p. unless) (Unless unless) (still_unless unless);
 }
 
@@ -193,7 +193,7 @@ parts_of P R (Some stop) p a (inl h) = inl (stop, refl, h)
 parts_of P R (Some stop) p a (inr h) = inr h
 
 -- one is stopped where the other goes on: it was cut short
-stopped_or_on : (P Q S : Process) → AreAlike P Q → OnlyGrows S → (c d : Option Stop) (p a b : Stage) → IsTold p.route → Fails P c p a → Joined Q S d p b → Agree c d a b
+stopped_or_on : (P Q S : Process) → AreAlike P Q → OnlyGrows S → (c d : Option Stop) (p a b : Stage) → IsKnownRoute p.route → Fails P c p a → Joined Q S d p b → Agree c d a b
 stopped_or_on P Q S alike grows c d p a b told h k = by_first (alike (Some h.0) None p a k.0 told h.2 k.1)
   where
     by_first : Agree (Some h.0) None a k.0 → Agree c d a b
@@ -202,7 +202,7 @@ stopped_or_on P Q S alike grows c d p a b told h k = by_first (alike (Some h.0) 
     by_first (SecondIsShort short on) = absurd short
 
 pub alike_then : (P Q R S : Process) → AreAlike P Q → KeepsTold P → OnlyGrows R → OnlyGrows S
-    → ((p x y : Stage) → IsTold p.route → P None p x → Q None p y → AreAlike R S) → AreAlike (ThenProcess P R) (ThenProcess Q S)
+    → ((p x y : Stage) → IsKnownRoute p.route → P None p x → Q None p y → AreAlike R S) → AreAlike (ThenProcess P R) (ThenProcess Q S)
 alike_then P Q R S alike keeps grows_r grows_s after c d p a b told h k = cases (parts_of P R c p a h) (parts_of Q S d p b k)
   where
     cases : Fails P c p a ⊎ Joined P R c p a → Fails Q d p b ⊎ Joined Q S d p b → Agree c d a b

@@ -2,7 +2,7 @@
 use Rattle.hn_base.proofs.Names.{◌≡◌, ◌∙◌, ◌⊎◌, ◌<◌, inl, inr, ℕ, zero, suc, Bool, true, false, List, [], ◌∷◌, ◌++◌, Option, None, Some, refl, sym, ap, subst}
 use Rattle.hn_lab.proofs.Names.{Name, IoFault, Note, State, IsChoice, Decides, Line, Datagram, Sends, MailCopy, WEvent, Carried, Same, Lost, Other, Stop, Refused, WireFailed, Cut, Breaks, MayHappen}
 use Rattle.hn_lab.proofs.Names.{MakesChoice, Chooses, chosen_event, decided_event, EventNotes, EventEnds, Replaces, ComesTo, IsBroken, DeliveryEnds, injection_for, TreatmentEnds, CopyEnds, HasWaiting}
-use Rattle.hn_lab.proofs.Names.{Flow, Ticks, Passes, Round, Runs, drawn, is_lost, IsTold, ResultsAreUnique, Noted, Delivered, Sets, OtherEnds, Follows, EndsAs, EndsBy, LineEnds, receiver, injection}
+use Rattle.hn_lab.proofs.Names.{Flow, Ticks, Passes, Round, Runs, drawn, is_lost, IsKnownRoute, ResultsAreUnique, Noted, Delivered, Sets, OtherEnds, Follows, EndsAs, EndsBy, LineEnds, receiver, injection}
 use Rattle.hn_lab.proofs.Names.{event_of, report_of, LineSaid, LinesDone, Process, Nothing, Unless, ThenProcess, EachProcess, Times, Until, unless_report, IsReport, Report, MayTurn, TurnEnds, Turns}
 use Rattle.hn_lab.proofs.Names.{TickEnds, Solicits, Stage, Route, Mail, Ports, Exchanges, TellsLines, TellsSome, Reports, note_lines, ula_line}
 use Rattle.hn_script.specs.declared.line.Line.TheVariants as line
@@ -89,7 +89,7 @@ record IsLeft (bytes : List ℕ) (before after : Route) : Type 0 where
   left_is : (left ≡ waiting) ⊎ (left ≡ waiting ++ sent_from base bytes ∷ [])
   after_is : after ≡ Ports base (Some left)
 
-is_left : (bytes : List ℕ) (before after : Route) → IsTold before → Breaks bytes before after → IsLeft bytes before after
+is_left : (bytes : List ℕ) (before after : Route) → IsKnownRoute before → Breaks bytes before after → IsLeft bytes before after
 is_left bytes Mail after told h = absurd h
 is_left bytes (Ports base waiting) after told (waits, inl same, is) = record {
   base = base;
@@ -108,7 +108,7 @@ is_left bytes (Ports base waiting) after told (waits, inr sends, is) = record {
   after_is = is ∙ ap (Ports base) (tells_sent (sent_from base bytes) told.0 waits (subst (λ (x : Option (List Datagram)). Sends (sent_from base bytes) x waits) told.1 sends));
 }
 
-copy_fails : (copy : ℕ) (p a : Stage) → IsTold p.route → IsBroken copy (Some WireFailed) p a → CopyFails p a
+copy_fails : (copy : ℕ) (p a : Stage) → IsKnownRoute p.route → IsBroken copy (Some WireFailed) p a → CopyFails p a
 copy_fails copy p a told h =
     let l = is_left h.mail.bytes p.route h.route told h.breaks in
     record {
@@ -128,7 +128,7 @@ copy_fails copy p a told h =
 module _ (fault : IoFault) where
   -- the process could as well have been cut right before the copy that failed
   abbrev BreaksAtCopy : Process → Type 0
-  BreaksAtCopy P = (p a : Stage) → IsTold p.route → P (Some WireFailed) p a → (at : Stage) × P (Some (Cut fault)) p at × CopyFails at a
+  BreaksAtCopy P = (p a : Stage) → IsKnownRoute p.route → P (Some WireFailed) p a → (at : Stage) × P (Some (Cut fault)) p at × CopyFails at a
 
   breaks_never : (P : Process) → NeverBreaks P → BreaksAtCopy P
   breaks_never P never p a told h = absurd (never p a h)
@@ -137,8 +137,8 @@ module _ (fault : IoFault) where
   breaks_then P R keeps first second p a told (inl h) = let b = first p a told h in (b.0, inl b.1, b.2)
   breaks_then P R keeps first second p a told (inr h) = let b = second h.0 a (keeps p h.0 told h.1) h.2 in (b.0, inr (h.0, h.1, b.1), b.2)
 
-  told_times : (HasMore : Stage → Type 0) (round : Process) → KeepsTold round → (n : ℕ) (p a : Stage) → IsTold p.route → Times HasMore round n p a → IsTold a.route
-  told_times HasMore round keeps zero p a told h = subst (λ (s : Stage). IsTold s.route) (sym h) told
+  told_times : (HasMore : Stage → Type 0) (round : Process) → KeepsTold round → (n : ℕ) (p a : Stage) → IsKnownRoute p.route → Times HasMore round n p a → IsKnownRoute a.route
+  told_times HasMore round keeps zero p a told h = subst (λ (s : Stage). IsKnownRoute s.route) (sym h) told
   told_times HasMore round keeps (suc n) p a told h = keeps h.0 a (told_times HasMore round keeps n p h.0 told h.1) h.3
 
   breaks_until : (HasMore : Stage → Type 0) (round : Process) → KeepsTold round → BreaksAtCopy round → BreaksAtCopy (Until HasMore round)
@@ -160,7 +160,7 @@ module _ (fault : IoFault) where
   module _ (unique : ResultsAreUnique) where
     breaks_copy : BreaksAtCopy CopyEnds
     breaks_copy p a told h =
-        let here = subst IsTold (sym (drawn_stays unique.steps p h.copy).0) told in
+        let here = subst IsKnownRoute (sym (drawn_stays unique.steps p h.copy).0) told in
         let b = breaks_treatment (is_lost p h.copy) (suc h.place) (drawn p h.copy) a here h.ends in
         (b.0, record { place = h.place; copy = h.copy; first = h.first; is_copy = h.is_copy; ends = b.1 }, b.2)
 
@@ -215,8 +215,8 @@ module _ (fault : IoFault) where
 
     -- ---- lines
 
-    told_lines : (ls : List (ℕ × Line)) (p a : Stage) → IsTold p.route → LinesDone ls p a → IsTold a.route
-    told_lines [] p a told h = subst (λ (s : Stage). IsTold s.route) (sym h) told
+    told_lines : (ls : List (ℕ × Line)) (p a : Stage) → IsKnownRoute p.route → LinesDone ls p a → IsKnownRoute a.route
+    told_lines [] p a told h = subst (λ (s : Stage). IsKnownRoute s.route) (sym h) told
     told_lines (l ∷ ls) p a told h = told_lines ls h.0 a ((sole_line unique l.1).keeps p h.0 told h.1) h.2
 
 pub wire_fails_at_a_copy : ResultsAreUnique → WireFailsAtACopy

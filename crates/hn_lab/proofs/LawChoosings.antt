@@ -1,6 +1,6 @@
 -- What a router chooses for itself ends in one way.
 use Rattle.hn_base.proofs.Names.{◌≡◌, ◌∙◌, ℕ, List, Option, None, Some, sym, ap, subst, same_Some, Begins}
-use Rattle.hn_lab.proofs.Names.{Name, State, WEvent, Member, StepIsUnique, unless_runs, Stop, TakesWords, MayHappen, MakesChoice, Chooses, IsTold, Unless, ThenProcess, Stage, TellsLines}
+use Rattle.hn_lab.proofs.Names.{Name, State, WEvent, Member, StepIsUnique, unless_runs, Stop, TakesWords, MayHappen, MakesChoice, Chooses, IsKnownRoute, Unless, ThenProcess, Stage, TellsLines}
 use Rattle.hn_lab.proofs.LawAlike.{Grows, grows_from, Agree, IsSole, sole_at, sole_nothing, sole_unless, sole_then}
 use Rattle.hn_lab.proofs.LawEvents.{sole_event}
 use Rattle.hn_lab.proofs.LawTells.{sole_tells}
@@ -23,8 +23,8 @@ module _ {A : Type 0} (steps : StepIsUnique) (name : Name) (IsMadeBy : State →
   sole_made made = sole_then (MayHappen (event_for made)) (TellsLines (told_of made)) (sole_may_happen steps (event_for made)) (sole_tells (told_of made))
 
   -- words are taken: the route and the text stay
-  told_between : (words : List ℕ) (p q : Stage) → TakesWords words p q → IsTold p.route → IsTold q.route
-  told_between words p q takes told = subst (λ (s : Stage). IsTold s.route) (sym takes.gives) told
+  told_between : (words : List ℕ) (p q : Stage) → TakesWords words p q → IsKnownRoute p.route → IsKnownRoute q.route
+  told_between words p q takes told = subst (λ (s : Stage). IsKnownRoute s.route) (sym takes.gives) told
 
   -- the other choice is the same, and so it comes to its end from there
   same_choice : (c d : Option Stop) (p a b : Stage) → (h : MakesChoice name IsMadeBy event_for told_of c p a) (k : MakesChoice name IsMadeBy event_for told_of d p b)
@@ -41,11 +41,11 @@ module _ {A : Type 0} (steps : StepIsUnique) (name : Name) (IsMadeBy : State →
   sole_makes : IsSole (MakesChoice name IsMadeBy event_for told_of)
   sole_makes = record { one = one; keeps = keeps; grows = grows }
     where
-      one : (c d : Option Stop) (p a b : Stage) → IsTold p.route → MakesChoice name IsMadeBy event_for told_of c p a → MakesChoice name IsMadeBy event_for told_of d p b → Agree c d a b
+      one : (c d : Option Stop) (p a b : Stage) → IsKnownRoute p.route → MakesChoice name IsMadeBy event_for told_of c p a → MakesChoice name IsMadeBy event_for told_of d p b → Agree c d a b
       one c d p a b told h k =
           (sole_made h.made).one c d h.between a b (told_between h.words p h.between h.takes told) h.ends (same_choice c d p a b h k)
 
-      keeps : (p a : Stage) → IsTold p.route → MakesChoice name IsMadeBy event_for told_of None p a → IsTold a.route
+      keeps : (p a : Stage) → IsKnownRoute p.route → MakesChoice name IsMadeBy event_for told_of None p a → IsKnownRoute a.route
       keeps p a told h = (sole_made h.made).keeps h.between a (told_between h.words p h.between h.takes told) h.ends
 
       grows : (c : Option Stop) (p a : Stage) → MakesChoice name IsMadeBy event_for told_of c p a → Grows p a

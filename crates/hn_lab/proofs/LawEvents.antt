@@ -2,7 +2,7 @@
 use Rattle.hn_base.proofs.Names.{◌≡◌, ◌∙◌, ◌<◌, inl, inr, ℕ, suc, Bool, true, false, List, Option, None, Some, refl, sym, ap, subst, slice_get, arith, ◌||◌, ◌==◌, if◌then◌else◌, same_Some}
 use Rattle.hn_lab.proofs.Names.{Name, RouterHasOneAdvert, Note, MailCopy, WEvent, is_away, running_names, refusal, StepIsUnique, Carried, Same, Lost, Other, Stop, Refused, WireFailed, Cut, Carries}
 use Rattle.hn_lab.proofs.Names.{Happens, EventNotes, EventEnds, injection_for, Replaces, ComesTo, Conveys, DeliveryEnds, TreatmentEnds, CopyEnds, HasWaiting, Flow, Ticks, Passes, Round, Runs, drawn}
-use Rattle.hn_lab.proofs.Names.{is_lost, IsTold, AdvertIsUnique, Unless, ThenProcess, EachProcess, Until, Turns, TickEnds, Stage, Route}
+use Rattle.hn_lab.proofs.Names.{is_lost, IsKnownRoute, AdvertIsUnique, Unless, ThenProcess, EachProcess, Until, Turns, TickEnds, Stage, Route}
 use Rattle.std.specs.Prelude.{◌+◌, min}
 use Rattle.hn_world.specs.declared.event.WEvent.TheVariants as event
 use Rattle.hn_lab.specs.Delivery.{IsConveyed}
@@ -38,7 +38,7 @@ module _ (steps : StepIsUnique) where
     one = λ m n. alike_still (λ p. refusal p.world event) (EventNotes event m) (EventNotes event n) (still_event event m) (still_event event n)
         (λ p a b h k. (happens_once event m n p a b h k).1);
     notes = λ m n p a b told h k. (happens_once event m n p a b h k).0;
-    keeps = λ n p a told h. subst IsTold (sym h.route) told;
+    keeps = λ n p a told h. subst IsKnownRoute (sym h.route) told;
     grows = λ n. grows_still (λ p. refusal p.world event) (EventNotes event n) (still_event event n);
   }
 
@@ -63,7 +63,7 @@ module _ (steps : StepIsUnique) where
       noting_at (λ p. Replaces copy (injection_for p.world mail bytes)) (λ p. noting_replaces copy (injection_for p.world mail bytes))
 
   -- what a copy is carried to is one thing, and so the other comes to its end from there
-  same_way : (copy : ℕ) (m n : List Note) (c d : Option Stop) (p a b : Stage) → IsTold p.route → (h : IsConveyed copy m c p a) (k : IsConveyed copy n d p b)
+  same_way : (copy : ℕ) (m n : List Note) (c d : Option Stop) (p a b : Stage) → IsKnownRoute p.route → (h : IsConveyed copy m c p a) (k : IsConveyed copy n d p b)
       → ComesTo copy h.mail h.carried n d (record p { route = h.route }) b
   same_way copy m n c d p a b told h k =
       let mail : k.mail ≡ h.mail = same_Some k.mail h.mail (sym k.is_copy ∙ h.is_copy) in
@@ -74,7 +74,7 @@ module _ (steps : StepIsUnique) where
       (subst (λ (r : Route). ComesTo copy k.mail k.carried n d (record p { route = r }) b) one.1 k.comes))
 
   -- afterwards what copies come to is still known
-  told_after : (copy : ℕ) (n : List Note) (c : Option Stop) (p a : Stage) → IsTold p.route → (h : IsConveyed copy n c p a) → IsTold h.route
+  told_after : (copy : ℕ) (n : List Note) (c : Option Stop) (p a : Stage) → IsKnownRoute p.route → (h : IsConveyed copy n c p a) → IsKnownRoute h.route
   told_after copy n c p a told h = still_told h.mail.bytes p.route h.route h.carried told h.carries
 
   noting_conveys : (copy : ℕ) → IsSoleNoting (Conveys copy)
@@ -84,19 +84,19 @@ module _ (steps : StepIsUnique) where
       grows n c p a (inl h) = grows_none p a (ap (λ (s : Stage). s.text) h.stays)
       grows n c p a (inr h) = (noting_comes copy h.mail h.carried).grows n c (record p { route = h.route }) a h.comes
 
-      one : (m n : List Note) (c d : Option Stop) (p a b : Stage) → IsTold p.route → Conveys copy m c p a → Conveys copy n d p b → Agree c d a b
+      one : (m n : List Note) (c d : Option Stop) (p a b : Stage) → IsKnownRoute p.route → Conveys copy m c p a → Conveys copy n d p b → Agree c d a b
       one m n c d p a b told (inl h) k = FirstIsShort (subst IsCutShort (sym h.stop_is) tt) (grows_from p a b (ap (λ (s : Stage). s.text) h.stays) (grows n d p b k))
       one m n c d p a b told (inr h) (inl k) = SecondIsShort (subst IsCutShort (sym k.stop_is) tt) (grows_from p b a (ap (λ (s : Stage). s.text) k.stays) (grows m c p a (inr h)))
       one m n c d p a b told (inr h) (inr k) =
           (noting_comes copy h.mail h.carried).one m n c d (record p { route = h.route }) a b (told_after copy m c p a told h) h.comes (same_way copy m n c d p a b told h k)
 
-      notes : (m n : List Note) (p a b : Stage) → IsTold p.route → Conveys copy m None p a → Conveys copy n None p b → m ≡ n
+      notes : (m n : List Note) (p a b : Stage) → IsKnownRoute p.route → Conveys copy m None p a → Conveys copy n None p b → m ≡ n
       notes m n p a b told (inl h) k = absurd (apart _ (sym h.stop_is))
       notes m n p a b told (inr h) (inl k) = absurd (apart _ (sym k.stop_is))
       notes m n p a b told (inr h) (inr k) =
           (noting_comes copy h.mail h.carried).notes m n (record p { route = h.route }) a b (told_after copy m None p a told h) h.comes (same_way copy m n None None p a b told h k)
 
-      keeps : (n : List Note) (p a : Stage) → IsTold p.route → Conveys copy n None p a → IsTold a.route
+      keeps : (n : List Note) (p a : Stage) → IsKnownRoute p.route → Conveys copy n None p a → IsKnownRoute a.route
       keeps n p a told (inl h) = absurd (apart _ (sym h.stop_is))
       keeps n p a told (inr h) = (noting_comes copy h.mail h.carried).keeps n (record p { route = h.route }) a (told_after copy n None p a told h) h.comes
 
@@ -123,13 +123,13 @@ module _ (steps : StepIsUnique) where
   pub sole_copy : IsSole CopyEnds
   sole_copy = record { one = one; keeps = keeps; grows = grows }
     where
-      keeps : (p a : Stage) → IsTold p.route → CopyEnds None p a → IsTold a.route
-      keeps p a told h = (sole_treatment (is_lost p h.copy) (suc h.place)).keeps (drawn p h.copy) a (subst IsTold (sym (drawn_stays p h.copy).0) told) h.ends
+      keeps : (p a : Stage) → IsKnownRoute p.route → CopyEnds None p a → IsKnownRoute a.route
+      keeps p a told h = (sole_treatment (is_lost p h.copy) (suc h.place)).keeps (drawn p h.copy) a (subst IsKnownRoute (sym (drawn_stays p h.copy).0) told) h.ends
 
       grows : (c : Option Stop) (p a : Stage) → CopyEnds c p a → Grows p a
       grows c p a h = grows_from (drawn p h.copy) p a (sym (drawn_stays p h.copy).1) ((sole_treatment (is_lost p h.copy) (suc h.place)).grows c (drawn p h.copy) a h.ends)
 
-      one : (c d : Option Stop) (p a b : Stage) → IsTold p.route → CopyEnds c p a → CopyEnds d p b → Agree c d a b
+      one : (c d : Option Stop) (p a b : Stage) → IsKnownRoute p.route → CopyEnds c p a → CopyEnds d p b → Agree c d a b
       one c d p a b told h k =
           let place : k.place ≡ h.place = same_Some k.place h.place (sym k.first ∙ h.first) in
           let there : slice_get p.world.copies h.place ≡ Some k.copy = subst (λ (at : ℕ). slice_get p.world.copies at ≡ Some k.copy) place k.is_copy in
@@ -137,7 +137,7 @@ module _ (steps : StepIsUnique) where
           let ends : TreatmentEnds (is_lost p h.copy) (suc h.place) d (drawn p h.copy) b =
           subst (λ (x : MailCopy). TreatmentEnds (is_lost p x) (suc h.place) d (drawn p x) b) copy
           (subst (λ (at : ℕ). TreatmentEnds (is_lost p k.copy) (suc at) d (drawn p k.copy) b) place k.ends) in
-          (sole_treatment (is_lost p h.copy) (suc h.place)).one c d (drawn p h.copy) a b (subst IsTold (sym (drawn_stays p h.copy).0) told) h.ends ends
+          (sole_treatment (is_lost p h.copy) (suc h.place)).one c d (drawn p h.copy) a b (subst IsKnownRoute (sym (drawn_stays p h.copy).0) told) h.ends ends
 
   pub sole_flow : IsSole Flow
   sole_flow = sole_until HasWaiting CopyEnds sole_copy
@@ -163,13 +163,13 @@ module _ (steps : StepIsUnique) (adverts : RouterHasOneAdvert) (readings : Adver
   pub sole_run : (end step : ℕ) → IsSole (Runs end step)
   sole_run end step = record { one = one; keeps = keeps; grows = grows }
     where
-      one : (c d : Option Stop) (p a b : Stage) → IsTold p.route → Runs end step c p a → Runs end step d p b → Agree c d a b
+      one : (c d : Option Stop) (p a b : Stage) → IsKnownRoute p.route → Runs end step c p a → Runs end step d p b → Agree c d a b
       one c d p a b told (inl h) (inl k) = AreOne (h.1 ∙ sym k.1) (h.2 ∙ sym k.2)
       one c d p a b told (inl h) (inr k) = let early = h.0 in let late = k.0 in absurd (omega arith)
       one c d p a b told (inr h) (inl k) = let early = k.0 in let late = h.0 in absurd (omega arith)
       one c d p a b told (inr h) (inr k) = (sole_rounds end step).one c d p a b told h.1 k.1
 
-      keeps : (p a : Stage) → IsTold p.route → Runs end step None p a → IsTold a.route
+      keeps : (p a : Stage) → IsKnownRoute p.route → Runs end step None p a → IsKnownRoute a.route
       keeps p a told (inl h) = absurd (apart _ (sym h.1))
       keeps p a told (inr h) = (sole_rounds end step).keeps p a told h.1
 

@@ -1,8 +1,8 @@
 -- A line of a script ends in one way.
 use Rattle.hn_base.proofs.Names.{◌≡◌, ◌∙◌, ℕ, [], ◌∷◌, Option, None, Some, refl, sym, ap, subst}
-use Rattle.hn_lab.proofs.Names.{IsChoice, Name, Line, Decides, WEvent, StepIsUnique, Report, chosen_event, decided_event, EventNotes, EventEnds, DeliveryEnds, IsTold, ResultsAreUnique, Noted}
+use Rattle.hn_lab.proofs.Names.{IsChoice, Name, Line, Decides, WEvent, StepIsUnique, Report, chosen_event, decided_event, EventNotes, EventEnds, DeliveryEnds, IsKnownRoute, ResultsAreUnique, Noted}
 use Rattle.hn_lab.proofs.Names.{Delivered, Sets, OtherEnds, Follows, EndsAs, EndsBy, LineEnds, event_of, report_of, receiver, injection, seeded, Unless, ThenProcess, unless_elects, Solicits, starting}
-use Rattle.hn_lab.proofs.Names.{ending, ending_all, Stage, TellsLines, note_lines, ula_line}
+use Rattle.hn_lab.proofs.Names.{ended_sending, ending_all, Stage, TellsLines, note_lines, ula_line}
 use Rattle.hn_script.specs.declared.line.Line.TheVariants as line
 use Rattle.hn_world.specs.declared.event.WEvent.TheVariants as event
 use Rattle.hn_lab.proofs.LawAlike.{grows_none, AreOne, IsSole, sole_at, sole_nothing, sole_unless, sole_then, noting_then}
@@ -19,7 +19,7 @@ use Rattle.hn_lab.proofs.LawTells.{sole_tells}
 sole_sets : (change : Stage → Stage) → ((p : Stage) → (change p).route ≡ p.route) → ((p : Stage) → (change p).text ≡ p.text) → IsSole (Sets change)
 sole_sets change route text = record {
   one = λ c d p a b told h k. AreOne (h.0 ∙ sym k.0) (h.1 ∙ sym k.1);
-  keeps = λ p a told h. subst (λ (s : Stage). IsTold s.route) (sym h.1) (subst IsTold (sym (route p)) told);
+  keeps = λ p a told h. subst (λ (s : Stage). IsKnownRoute s.route) (sym h.1) (subst IsKnownRoute (sym (route p)) told);
   grows = λ c p a h. grows_none p a (ap (λ (s : Stage). s.text) h.1 ∙ text p);
 }
 
@@ -62,7 +62,7 @@ sole_other unique _ = sole_never
 -- what follows an event
 sole_follows : ResultsAreUnique → (event : WEvent) → IsSole (Follows event)
 sole_follows unique (event.Tick name) = sole_turns unique.adverts unique.readings name
-sole_follows unique (event.Detach name e) = sole_sets (ending name e) (λ p. refl) (λ p. refl)
+sole_follows unique (event.Detach name e) = sole_sets (ended_sending name e) (λ p. refl) (λ p. refl)
 sole_follows unique (event.Stop name) = sole_sets (ending_all name) (λ p. refl) (λ p. refl)
 sole_follows unique (event.Start name) = sole_sets (ending_all name) (λ p. refl) (λ p. refl)
 sole_follows unique _ = sole_nothing

@@ -1,6 +1,6 @@
 -- Lines have at most one play, and what of it was cut short has a front of its text.
 use Rattle.hn_base.proofs.Names.{◌≡◌, ◌∙◌, ◌⊎◌, inl, inr, ℕ, List, [], ◌∷◌, ◌++◌, length, Option, None, Some, refl, sym, ap, subst, ⊤}
-use Rattle.hn_lab.proofs.Names.{append-nil, IoFault, Failed, Line, End, Stop, Refused, WireFailed, Cut, IsTold, IsUnbroken, ResultsAreUnique, CutTextsAreFronts, LineEnds, LineSaid, LinesDone, StopsAt}
+use Rattle.hn_lab.proofs.Names.{append-nil, IoFault, Failed, Line, End, Stop, Refused, WireFailed, Cut, IsKnownRoute, IsUnbroken, ResultsAreUnique, CutTextsAreFronts, LineEnds, LineSaid, LinesDone, StopsAt}
 use Rattle.hn_lab.proofs.Names.{IsPlay, IsCut, IsCutPlay, Process, Nothing, ThenProcess, refused_line, Stage, TellsLines, Told}
 use Rattle.std.proofs.lemmas.List.{same_from_push}
 use Rattle.hn_base.proofs.FrontOfList.{same_parts}
@@ -42,7 +42,7 @@ module _ (number : ℕ) (l : Line) (sole : IsSole (LineEnds l)) where
   said (Some (Cut fault)) p a (inr h) = Refusing h.0 (Some (Cut fault)) h.1 h.2 h.3 refl
 
   -- one is refused, and the other ends otherwise: that was cut short
-  plain_or_refusing : (c d told : Option Stop) (code : ℕ) (p a x b : Stage) → IsTold p.route → ¬ IsRefusal c → LineEnds l c p a
+  plain_or_refusing : (c d told : Option Stop) (code : ℕ) (p a x b : Stage) → IsKnownRoute p.route → ¬ IsRefusal c → LineEnds l c p a
       → LineEnds l (Some (Refused code)) p x → TellsLines (refused_line number code ∷ []) told x b → Agree c d a b
   plain_or_refusing c d told code p a x b known plain h refused tells = by_line (sole.one c (Some (Refused code)) p a x known h refused)
     where
@@ -52,7 +52,7 @@ module _ (number : ℕ) (l : Line) (sole : IsSole (LineEnds l)) where
       by_line (SecondIsShort short grows) = absurd short
 
   -- both are refused
-  both_refusing : (c d t u : Option Stop) (code other : ℕ) (p a x y b : Stage) → IsTold p.route
+  both_refusing : (c d t u : Option Stop) (code other : ℕ) (p a x y b : Stage) → IsKnownRoute p.route
       → LineEnds l (Some (Refused code)) p x → LineEnds l (Some (Refused other)) p y
       → TellsLines (refused_line number code ∷ []) t x a → TellsLines (refused_line number other ∷ []) u y b
       → c ≡ said_end code t → d ≡ said_end other u → Agree c d a b
@@ -72,7 +72,7 @@ module _ (number : ℕ) (l : Line) (sole : IsSole (LineEnds l)) where
       by_line (FirstIsShort short grows) = absurd short
       by_line (SecondIsShort short grows) = absurd short
 
-  said_agree : (c d : Option Stop) (p a b : Stage) → IsTold p.route → Said c p a → Said d p b → Agree c d a b
+  said_agree : (c d : Option Stop) (p a b : Stage) → IsKnownRoute p.route → Said c p a → Said d p b → Agree c d a b
   said_agree c d p a b known (Plainly plain h) (Plainly plain_too k) = sole.one c d p a b known h k
   said_agree c d p a b known (Plainly plain h) (Refusing code told x k tells d_is) = plain_or_refusing c d told code p a x b known plain h k tells
   said_agree c d p a b known (Refusing code told x h tells c_is) (Plainly plain k) = turned d c b a (plain_or_refusing d c told code p b x a known plain k h tells)
@@ -176,11 +176,11 @@ module _ (unique : ResultsAreUnique) where
   sole_plays (l ∷ ls) = sole_then (LineSaid l.0 l.1) (Plays ls) (line_said l) (sole_plays ls)
 
   -- a line is not refused and also done
-  not_both : (l : ℕ × Line) (code : ℕ) (p a b : Stage) → IsTold p.route → LineSaid l.0 l.1 (Some (Refused code)) p a → LineSaid l.0 l.1 None p b → ⊥
+  not_both : (l : ℕ × Line) (code : ℕ) (p a b : Stage) → IsKnownRoute p.route → LineSaid l.0 l.1 (Some (Refused code)) p a → LineSaid l.0 l.1 None p b → ⊥
   not_both l code p a b told h k = apart (Refused code) (ones (Some (Refused code)) None a b (λ short. short) (λ short. short) ((line_said l).one (Some (Refused code)) None p a b told h k)).0
 
   -- lines are refused at one number
-  one_number : (n m c d : ℕ) (ls : List (ℕ × Line)) (p a b : Stage) → IsTold p.route → Halts n (Refused c) ls p a → Halts m (Refused d) ls p b → n ≡ m
+  one_number : (n m c d : ℕ) (ls : List (ℕ × Line)) (p a b : Stage) → IsKnownRoute p.route → Halts n (Refused c) ls p a → Halts m (Refused d) ls p b → n ≡ m
   one_number n m c d [] p a b told h k = absurd h
   one_number n m c d (l ∷ ls) p a b told (inl h) (inl k) = h.0 ∙ sym k.0
   one_number n m c d (l ∷ ls) p a b told (inl h) (inr k) = absurd (not_both l c p a k.0 told h.1 k.1)
@@ -189,7 +189,7 @@ module _ (unique : ResultsAreUnique) where
       let same = both_done h.0 k.0 ((line_said l).one None None p h.0 k.0 told h.1 k.1) in
       one_number n m c d ls h.0 a b ((line_said l).keeps p h.0 told h.1) h.2 (subst (λ (s : Stage). Halts m (Refused d) ls s b) (sym same) k.2)
 
-  same_end : (ls : List (ℕ × Line)) (r q : End) (p a b : Stage) → IsTold p.route → IsUnbroken r → IsUnbroken q → IsPlay ls r p a → IsPlay ls q p b
+  same_end : (ls : List (ℕ × Line)) (r q : End) (p a b : Stage) → IsKnownRoute p.route → IsUnbroken r → IsUnbroken q → IsPlay ls r p a → IsPlay ls q p b
       → stop_of_end r ≡ stop_of_end q → r ≡ q
   same_end ls end.Done end.Done p a b told u v h k same = refl
   same_end ls end.Done (end.Refused m d) p a b told u v h k same = absurd (apart (Refused d) (sym same))
@@ -203,7 +203,7 @@ module _ (unique : ResultsAreUnique) where
 
   -- ---- the laws
 
-  pub one_play : (ls : List (ℕ × Line)) (r q : End) (p a b : Stage) → IsTold p.route → IsUnbroken r → IsUnbroken q → IsPlay ls r p a → IsPlay ls q p b → (r ≡ q) × (a ≡ b)
+  pub one_play : (ls : List (ℕ × Line)) (r q : End) (p a b : Stage) → IsKnownRoute p.route → IsUnbroken r → IsUnbroken q → IsPlay ls r p a → IsPlay ls q p b → (r ≡ q) × (a ≡ b)
   one_play ls r q p a b told u v h k =
       let agree = (sole_plays ls).one (stop_of_end r) (stop_of_end q) p a b told (plays ls r p a h) (plays ls q p b k) in
       let one = ones (stop_of_end r) (stop_of_end q) a b (not_short r u) (not_short q v) agree in
@@ -219,13 +219,13 @@ module _ (unique : ResultsAreUnique) where
         ((sole_plays ls).one (Some (Cut fault)) (Some (Cut other)) p a b told (plays_cut fault ls p a h) (plays_cut other ls p b k));
   }
 
-  pub broken_front : (ls : List (ℕ × Line)) (r : End) (p a b : Stage) → IsTold p.route → IsUnbroken r → IsPlay ls end.WireFailed p a → IsPlay ls r p b → Grows a b
+  pub broken_front : (ls : List (ℕ × Line)) (r : End) (p a b : Stage) → IsKnownRoute p.route → IsUnbroken r → IsPlay ls end.WireFailed p a → IsPlay ls r p b → Grows a b
   broken_front ls r p a b told u h k =
       front_of (Some WireFailed) (stop_of_end r) a b (not_short r u)
       ((sole_plays ls).one (Some WireFailed) (stop_of_end r) p a b told (plays ls end.WireFailed p a h) (plays ls r p b k))
 
   -- the world of the last line of a text
-  pub one_cut : (ls : List (ℕ × Line)) (p a b : Stage) → IsTold p.route → IsCutPlay ls p a → IsCutPlay ls p b → length a.text ≡ length b.text → (a.text ≡ b.text) × (a.world ≡ b.world)
+  pub one_cut : (ls : List (ℕ × Line)) (p a b : Stage) → IsKnownRoute p.route → IsCutPlay ls p a → IsCutPlay ls p b → length a.text ≡ length b.text → (a.text ≡ b.text) × (a.world ≡ b.world)
   one_cut ls p a b told h k lengths =
       let texts = elim (cut_fronts.of_cut Failed Failed ls p a b told h.cut k.cut) as (λ _. a.text ≡ b.text) [
         | inl grows ↦ same_length a b lengths grows

@@ -1,6 +1,6 @@
 -- Router Advertisements are sent in one way.
 use Rattle.hn_base.proofs.Names.{◌≡◌, ◌∙◌, ◌⊎◌, inl, inr, ℕ, Bool, true, false, List, Option, None, Some, refl, sym, ap, subst, if◌then◌else◌, same_Some, none-some}
-use Rattle.hn_lab.proofs.Names.{position, IsAdvert, advert_bytes, Advert, EpId, Name, PlainSender, solicited, is_due, IsAdvertAt, RouterHasOneAdvert, State, Member, Stop, Sending, Shape, IsTold}
+use Rattle.hn_lab.proofs.Names.{position, IsAdvert, advert_bytes, Advert, EpId, Name, PlainSender, solicited, is_due, IsAdvertAt, RouterHasOneAdvert, State, Member, Stop, Sending, Shape, IsKnownRoute}
 use Rattle.hn_lab.proofs.Names.{AdvertIsUnique, Nothing, EachProcess, shape_of, sends_at, sender_endpoints, IsSenderAt, ra_line, IsAsked, IsDue, line_if, sending_now, with_this, drawing, IsTurn}
 use Rattle.hn_lab.proofs.Names.{HasNoTurn, MayTurn, TurnEnds, Turns, IsSolicited, Solicits, Stage, TellsLines}
 use Rattle.std.specs.Prelude.{slice_get}
@@ -67,21 +67,21 @@ module _ (adverts : RouterHasOneAdvert) (readings : AdvertIsUnique) where
         (subst (λ (x : Bool). TellsLines (line_if x (ra_line name e p.world.moment (advert_bytes h.advert))) d k.between b) due.0
         (subst (λ (x : Advert). TellsLines (line_if k.due (ra_line name e p.world.moment (advert_bytes x))) d k.between b) advert k.ends))
 
-    told_between : (c : Option Stop) (p a : Stage) → (h : IsTurn name e c p a) → IsTold p.route → IsTold h.between.route
-    told_between c p a h told = subst IsTold (sym (due_stays h.place h.sending (shape_of h.advert) h.due p h.between h.comes).0) told
+    told_between : (c : Option Stop) (p a : Stage) → (h : IsTurn name e c p a) → IsKnownRoute p.route → IsKnownRoute h.between.route
+    told_between c p a h told = subst IsKnownRoute (sym (due_stays h.place h.sending (shape_of h.advert) h.due p h.between h.comes).0) told
 
     sole_may_turn : IsSole (MayTurn name e)
     sole_may_turn = record { one = one; keeps = keeps; grows = grows }
       where
-        one : (c d : Option Stop) (p a b : Stage) → IsTold p.route → MayTurn name e c p a → MayTurn name e d p b → Agree c d a b
+        one : (c d : Option Stop) (p a b : Stage) → IsKnownRoute p.route → MayTurn name e c p a → MayTurn name e d p b → Agree c d a b
         one c d p a b told (inl h) (inl k) = AreOne (h.1 ∙ sym k.1) (h.2 ∙ sym k.2)
         one c d p a b told (inl h) (inr k) = absurd (not_both name e d p b h.0 k)
         one c d p a b told (inr h) (inl k) = absurd (not_both name e c p a k.0 h)
         one c d p a b told (inr h) (inr k) =
             (sole_tells (line_if h.due (ra_line name e p.world.moment (advert_bytes h.advert)))).one c d h.between a b (told_between c p a h told) h.ends (same_turn c d p a b h k)
 
-        keeps : (p a : Stage) → IsTold p.route → MayTurn name e None p a → IsTold a.route
-        keeps p a told (inl h) = subst (λ (s : Stage). IsTold s.route) (sym h.2) told
+        keeps : (p a : Stage) → IsKnownRoute p.route → MayTurn name e None p a → IsKnownRoute a.route
+        keeps p a told (inl h) = subst (λ (s : Stage). IsKnownRoute s.route) (sym h.2) told
         keeps p a told (inr h) =
             (sole_tells (line_if h.due (ra_line name e p.world.moment (advert_bytes h.advert)))).keeps h.between a (told_between None p a h told) h.ends
 
@@ -109,7 +109,7 @@ module _ (name : Name) (e : EpId) where
   pub sole_solicits : IsSole (Solicits name e)
   sole_solicits = record {
     one = λ c d p a b told h k. AreOne (h.0 ∙ sym k.0) (once p a b h.1 k.1);
-    keeps = λ p a told h. subst IsTold (sym (stays p a h.1).0) told;
+    keeps = λ p a told h. subst IsKnownRoute (sym (stays p a h.1).0) told;
     grows = λ c p a h. grows_none p a (stays p a h.1).1;
   }
     where

@@ -1,6 +1,6 @@
 -- An exchange ends in one way.
 use Rattle.hn_base.proofs.Names.{◌≡◌, ◌∙◌, ℕ, Option, None, Some, sym, ap, subst}
-use Rattle.hn_lab.proofs.Names.{Name, unless_exchange, Stop, Refused, WireFailed, Cut, IsTold, Unless, ThenProcess, Stage, Syncs, Exchanges, SyncEnds}
+use Rattle.hn_lab.proofs.Names.{Name, unless_exchange, Stop, Refused, WireFailed, Cut, IsKnownRoute, Unless, ThenProcess, Stage, Syncs, Exchanges, SyncEnds}
 use Rattle.hn_sync.specs.Laws.{ExchangeIsUnique}
 use Rattle.hn_lab.proofs.LawAlike.{Grows, grows_none, Agree, AreOne, FirstIsShort, SecondIsShort, IsSole, sole_at, sole_unless, sole_then}
 use Rattle.hn_lab.proofs.LawEvents.{same_stage}
@@ -27,7 +27,7 @@ module _ (exchanges : ExchangeIsUnique) (m n : Name) where
   grows_like : (c d : Option Stop) (p a b : Stage) → Exchanges m n c p a → Exchanges m n d p b → Grows a b
   grows_like c d p a b h k = grows_none a b (still_text d p b k ∙ sym (still_text c p a h))
 
-  one_end : (c d : Option Stop) (p a b : Stage) → IsTold p.route → Exchanges m n c p a → Exchanges m n d p b → Agree c d a b
+  one_end : (c d : Option Stop) (p a b : Stage) → IsKnownRoute p.route → Exchanges m n c p a → Exchanges m n d p b → Agree c d a b
   one_end None None p a b told h k = same_ends None None p a b h.0 k.0
   one_end None (Some (Refused f)) p a b told h k = same_ends None (Some f) p a b h.0 k
   one_end (Some (Refused e)) None p a b told h k = same_ends (Some e) None p a b h k.0
@@ -42,7 +42,7 @@ module _ (exchanges : ExchangeIsUnique) (m n : Name) where
   sole_exchange : IsSole (Exchanges m n)
   sole_exchange = record {
     one = one_end;
-    keeps = λ p a told h. subst IsTold (sym h.0.route) told;
+    keeps = λ p a told h. subst IsKnownRoute (sym h.0.route) told;
     grows = λ c p a h. grows_none p a (still_text c p a h);
   }
 

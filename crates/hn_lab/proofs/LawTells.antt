@@ -1,6 +1,6 @@
 -- Lines come up in one way; where all is cut there, the text is a front.
 use Rattle.hn_base.proofs.Names.{◌≡◌, ◌∙◌, ◌⊎◌, inl, inr, ℕ, List, [], ◌∷◌, ◌++◌, append_assoc, Option, None, Some, refl, sym, ap, subst, map-append}
-use Rattle.hn_lab.proofs.Names.{append-nil, IoFault, Stop, Refused, WireFailed, Cut, IsTold, Unless, Stage, telling, TellsLines, TellsSome, IsOneLine, Reports, Told, told}
+use Rattle.hn_lab.proofs.Names.{append-nil, IoFault, Stop, Refused, WireFailed, Cut, IsKnownRoute, Unless, Stage, telling, TellsLines, TellsSome, IsOneLine, Reports, Told, told}
 use Rattle.hn_lab.proofs.LawAlike.{Grows, Agree, AreOne, FirstIsShort, SecondIsShort, IsSole, sole_unless, sole_then}
 
 -- of two fronts of a list, one is a front of the other
@@ -69,7 +69,7 @@ module _ (lines : List (List ℕ)) where
   pub sole_tells : IsSole (TellsLines lines)
   sole_tells = record {
     one = λ c d p a b told h k. tells_agree c d p a b h k;
-    keeps = λ p a told h. subst (λ (s : Stage). IsTold s.route) (sym h) told;
+    keeps = λ p a told h. subst (λ (s : Stage). IsKnownRoute s.route) (sym h) told;
     grows = grows_tells;
   }
 

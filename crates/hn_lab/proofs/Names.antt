@@ -5,10 +5,10 @@ pub use Rattle.hn_advert.specs.Advert.{IsAdvert, advert_bytes}
 pub use Rattle.hn_advert.specs.declared.advert.Advert.{Advert}
 pub use Rattle.hn_assign.specs.declared.assigned.Assigned.{Assigned}
 pub use Rattle.hn_audit.specs.Laws.{SettledSeeEachOther}
-pub use Rattle.hn_audit.specs.Quiet.{IsQuiet}
+pub use Rattle.hn_audit.specs.Quiet.{IsQuietByRules}
 pub use Rattle.hn_audit.specs.Reached.{IsReached, IsRunning}
 pub use Rattle.hn_audit.specs.Set.{is_in_set}
-pub use Rattle.hn_audit.specs.Settled.{IsSettled}
+pub use Rattle.hn_audit.specs.Settled.{IsSettledByRules}
 pub use Rattle.hn_base.proofs.AscendingLists.{Contains-cases, Contains-head, Contains-tail, nothing_in}
 pub use Rattle.hn_base.proofs.DecidingTests.{neither_given, some_there}
 pub use Rattle.hn_base.proofs.Elements.{all_of, found_passes, in_filter}
@@ -17,6 +17,7 @@ pub use Rattle.hn_base.proofs.PartsAtPlaces.{contains_at}
 pub use Rattle.hn_base.proofs.Prefixes.{prefix_decided}
 pub use Rattle.hn_base.proofs.Results.{same_error}
 pub use Rattle.hn_base.proofs.SomeExists.{some_by, some_then}
+pub use Rattle.hn_base.specs.YesNo.{yes_no}
 pub use Rattle.hn_base.specs.declared.ids.EpId.{EpId}
 pub use Rattle.hn_base.specs.declared.ids.NodeId.{NodeId}
 pub use Rattle.hn_base.specs.declared.letter.Letter.{Letter}
@@ -35,18 +36,18 @@ pub use Rattle.hn_lab.specs.Ended.{Ended, EndsLeaving, EndsWith, IsAnswered, IsA
 pub use Rattle.hn_lab.specs.Events.{CopyEnds, Flow, HasWaiting, Passes, Round, Runs, Ticks, TreatmentEnds, drawn, is_lost}
 pub use Rattle.hn_lab.specs.Existing.{ComesToAnEnd, GoesOn, IsFit, IsOn, ScriptHasAPlay, stop_by}
 pub use Rattle.hn_lab.specs.Lab.{HasDonePlay, HasRefusal, IsBrokenPlay, IsLabOf, IsLabRun, IsWholePlay, Plays, StatusOfScript}
-pub use Rattle.hn_lab.specs.Laws.{AdvertIsUnique, AtMostOnePlay, CutTextsAreFronts, IsTold, IsUnbroken, ResultsAreUnique}
+pub use Rattle.hn_lab.specs.Laws.{AdvertIsUnique, AtMostOnePlay, CutTextsAreFronts, IsKnownRoute, IsUnbroken, ResultsAreUnique}
 pub use Rattle.hn_lab.specs.Line.{Delivered, EndsAs, EndsBy, Follows, LineEnds, Noted, OtherEnds, Sets, event_of, injection, receiver, report_of, seeded}
 pub use Rattle.hn_lab.specs.Output.{AppendsFront, AppendsPart, AreCut, IsCutText, joined}
 pub use Rattle.hn_lab.specs.Play.{IsCut, IsCutPlay, IsPlay, LineSaid, LinesDone, StopsAt, begun}
 pub use Rattle.hn_lab.specs.PrefixReports.{AreUsedLines, IsElectLine, elect_line, prefix_line, used_lines}
 pub use Rattle.hn_lab.specs.Process.{EachProcess, Nothing, Process, ThenProcess, Times, Unless, Until}
 pub use Rattle.hn_lab.specs.Report.{Compares, IsAbout, IsReport, ReportEnds, Tells, mail_report, unless_elects, unless_report}
-pub use Rattle.hn_lab.specs.Reports.{compare_line, hash_line, refused_line, show_line, yes_no}
+pub use Rattle.hn_lab.specs.Reports.{compare_line, hash_line, refused_line, show_line}
 pub use Rattle.hn_lab.specs.Senders.{AreInOrder, IsSenderAt, is_sender_of, placed, sender_endpoints, sends_at, shape_of, without_sender}
-pub use Rattle.hn_lab.specs.Sending.{HasNoTurn, IsAsked, IsDue, IsSolicited, IsTurn, MayTurn, Solicits, TickEnds, TurnEnds, Turns, drawing, ending, ending_all, line_if, ra_line, sending_now, starting}
+pub use Rattle.hn_lab.specs.Sending.{HasNoTurn, IsAsked, IsDue, IsSolicited, IsTurn, MayTurn, Solicits, TickEnds, TurnEnds, Turns, drawing, ended_sending, ending_all, line_if, ra_line, sending_now, starting}
 pub use Rattle.hn_lab.specs.Sending.{with_this}
-pub use Rattle.hn_lab.specs.Stage.{Mail, Ports, Route, Stage, route_of, stage_of, telling, words_of}
+pub use Rattle.hn_lab.specs.Stage.{Mail, Ports, Route, Stage, route_of, stage_of, telling, stream_words}
 pub use Rattle.hn_lab.specs.Syncing.{Exchanges, SyncEnds, Syncs}
 pub use Rattle.hn_lab.specs.Tells.{IsOneLine, Reports, TellsLines, TellsSome, note_lines}
 pub use Rattle.hn_lab.specs.Told.{Told, bytes_of, told}

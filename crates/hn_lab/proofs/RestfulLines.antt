@@ -8,7 +8,7 @@ use Rattle.hn_audit.specs.Staying.{IsMemberAt, KeepAssignments}
 use Rattle.hn_script.specs.declared.line.Line.TheVariants as line
 use Rattle.hn_world.specs.declared.event.WEvent.TheVariants as event
 use Rattle.hn_world.specs.Step.{Does}
-use Rattle.hn_lab.specs.Resting.{IsLook, IsRestfulLine, RestfulLinesKeepCalm}
+use Rattle.hn_lab.specs.Resting.{OnlyLooks, IsRestfulLine, RestfulLinesKeepCalm}
 use Rattle.hn_lab.proofs.RunsInTurns.{GoesRun, IsNamedAt, IsRunEvent, IsSameBut, RunLaws, from_front, lasting_run_keeps_calm, named_on, one_round, replayed_after}
 
 -- ---- each router is at its place
@@ -101,7 +101,7 @@ report_stays : (of : Report) (p a : Stage) → ReportEnds of None p a → IsSame
 report_stays of p a (q, (none, is), (lines, are, told)) =
     subst (IsSameBut p) (sym told) (record { world = ap (λ (s : Stage). s.world) is; loss = ap (λ (s : Stage). s.loss) is; route = ap (λ (s : Stage). s.route) is })
 
-look_stays : (l : Line) (p a : Stage) → IsLook l → LineEnds l None p a → IsSameBut p a
+look_stays : (l : Line) (p a : Stage) → OnlyLooks l → LineEnds l None p a → IsSameBut p a
 look_stays l p a look ends =
     let no_event : EndsBy l None None p a = subst (λ (o : Option WEvent). EndsBy l o None p a) look.no_event ends in
     let report : EndsAs l (Some look.report) None p a = subst (λ (o : Option Report). EndsAs l o None p a) look.is no_event in

@@ -2,14 +2,14 @@
 use Rattle.hn_base.proofs.Names.{◌≡◌, ◌≤◌, ◌<◌, ◌+◌, ℕ, true, false, Bool, IsTrue, Contains, List, length, take, get_or, Option, Some, refl, subst, sym, ◌∙◌, list_any, option_map_or, and_parts}
 use Rattle.hn_base.proofs.Names.{eqb-true, eq-eqb, take_all, All-contains, All-more, Contains-get_or}
 use Rattle.hn_lab.proofs.Names.{◌==◌, All, ◌↔◌, all_of, found_passes, same_node, NodeId, ViewIsNetwork, EntriesAreAsKnown, State, IsRouter, Member, Parts, is_named, member_named, WorldIsSound}
-use Rattle.hn_lab.proofs.Names.{IsReplayed, IsSoundMember, SettledSeeEachOther, IsRunning, IsReached, is_in_set, IsSettled}
+use Rattle.hn_lab.proofs.Names.{IsReplayed, IsSoundMember, SettledSeeEachOther, IsRunning, IsReached, is_in_set, IsSettledByRules}
 use Rattle.std.proofs.Common.{◌&&◌}
 use Rattle.std.specs.List.{filter}
 use Rattle.hn_base.proofs.AscendingLists.{Contains-from_map}
 use Rattle.hn_base.proofs.Elements.{any_from, any_of, from_filter_map}
 use Rattle.hn_data.specs.declared.view.Entry.{Entry}
 use Rattle.hn_rules.specs.Nodes.{entry_of, view_of}
-use Rattle.hn_audit.specs.Laws.{AreSeen}
+use Rattle.hn_audit.specs.Laws.{SeesTheSet}
 use Rattle.hn_audit.specs.Reached.{runs}
 
 -- a router reaches itself
@@ -26,13 +26,13 @@ pub record IsKnown (w : Parts) (r : Member) : Type 0 where
   pub see : SettledSeeEachOther
   pub replayed : IsReplayed w
   pub runs : IsRunning w r
-  pub settled : IsSettled w r
+  pub settled : IsSettledByRules w r
 
 -- each of its set is a router, and sees the others as they are
 pub router_of : (w : Parts) (r : Member) → IsKnown w r → (s : Member) → IsReached w r s → IsRouter s.router
 router_of w r known s s_in = (All-contains (IsSoundMember w.moment) w.members s (known.sound w known.replayed) s_in.runs.there).router
 
-pub seen_of : (w : Parts) (r : Member) → IsKnown w r → (s : Member) → IsReached w r s → AreSeen w r s
+pub seen_of : (w : Parts) (r : Member) → IsKnown w r → (s : Member) → IsReached w r s → SeesTheSet w r s
 seen_of w r known s s_in = known.see w r s known.replayed known.runs known.settled s_in
 
 -- a running router is of its set

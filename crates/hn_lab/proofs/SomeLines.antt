@@ -1,8 +1,8 @@
 -- By mail each line ends, and lines have a play: it cannot be that they have none.
-use Rattle.hn_base.proofs.Names.{◌≡◌, ◌-◌, ◌*◌, ◌/◌, ◌%◌, ◌<◌, ◌^◌, ℕ, List, [], ◌∷◌, Option, None, Some, refl, ap, inl, arith, All, div_below, pow_pos, IsByte, Some! }
+use Rattle.hn_base.proofs.Names.{◌≡◌, ◌-◌, ◌*◌, ◌/◌, ◌%◌, ◌<◌, ◌^◌, ℕ, List, [], ◌∷◌, Option, None, Some, refl, ap, inl, arith, All, div_below, pow_pos, IsByte, Some!}
 use Rattle.hn_lab.proofs.Names.{EpId, Name, Version, some_then, Note, IsLimited, Line, WEvent, End, Sending, DeliveryEnds, EventEnds, EventNotes, ComesToAnEnd, GoesOn, IsFit, IsOn, ScriptHasAPlay}
 use Rattle.hn_lab.proofs.Names.{stop_by, IsUnbroken, EndsAs, EndsBy, Follows, LineEnds, Noted, OtherEnds, Sets, event_of, injection, receiver, report_of, seeded, begun, IsPlay, Process, ThenProcess}
-use Rattle.hn_lab.proofs.Names.{IsReport, unless_elects, unless_report, refused_line, Report, Solicits, ending, ending_all, starting, Stage, Mail, telling, TellsLines, note_lines, ula_line}
+use Rattle.hn_lab.proofs.Names.{IsReport, unless_elects, unless_report, refused_line, Report, Solicits, ended_sending, ending_all, starting, Stage, Mail, telling, TellsLines, note_lines, ula_line}
 use Rattle.std.specs.Prelude.{bit_or, bit_xor}
 use Rattle.std.proofs.lemmas.Nat.{or_of_32}
 use Rattle.rand_pcg.specs.Lcg.{Lcg, state_after}
@@ -94,7 +94,7 @@ module _ (laws : PlayLaws) where
   -- what follows an event
   ends_follows : (happened : WEvent) (p : Stage) → IsFit p → ComesToAnEnd 0 (Follows happened) p
   ends_follows (event.Tick name) p fit = ends_turns laws.turns name p fit
-  ends_follows (event.Detach name e) p fit = ends_sets (ending name e) p (beside_on p _ fit)
+  ends_follows (event.Detach name e) p fit = ends_sets (ended_sending name e) p (beside_on p _ fit)
   ends_follows (event.Stop name) p fit = ends_sets (ending_all name) p (beside_on p _ fit)
   ends_follows (event.Start name) p fit = ends_sets (ending_all name) p (beside_on p _ fit)
   ends_follows _ p fit = ends_nothing p fit

@@ -1,6 +1,6 @@
 -- What reports tell: it cannot be that there is nothing to tell.
 use Rattle.hn_base.proofs.Names.{◌≡◌, ◌+◌, ℕ, Bool, true, false, not, IsTrue, List, [], ◌∷◌, filter, Option, None, Some, refl, inl, inr, option_or, Some!, name_text}
-use Rattle.hn_lab.proofs.Names.{◌↔◌, codes, StillAddressesStay, advert_bytes, SettledSeeEachOther, IsQuiet, IsRunning, is_in_set, IsSettled, EpId, Letter, Name, neither_given, some_there}
+use Rattle.hn_lab.proofs.Names.{◌↔◌, codes, StillAddressesStay, advert_bytes, SettledSeeEachOther, IsQuietByRules, IsRunning, is_in_set, IsSettledByRules, EpId, Letter, Name, neither_given, some_there}
 use Rattle.hn_lab.proofs.Names.{found_passes, some_by, some_then, AdvertExists, EntriesAreAsKnown, OwnAddressesAreSaid, OwnVersionIsSaid, ViewIsNetwork, IsRouter, seen_by, WorldIsSound, is_named}
 use Rattle.hn_lab.proofs.Names.{member_named, unless_both_run, unless_known, unless_running, unless_runs, IsReplayed, Member, Parts, AreAddressesStill, IsAddressed, IsAddressedLine, IsAdvertLine}
 use Rattle.hn_lab.proofs.Names.{advert_line, IsAudited, IsAuditLine, audit_line, AreUsedLines, IsElectLine, elect_line, used_lines, Compares, IsAbout, IsReport, Tells, mail_report, unless_report}
@@ -80,8 +80,8 @@ module _ (laws : ReportLaws) (w : Parts) (replayed : IsReplayed w) (name : Name)
   module _ (runs : IsRunning w m) where
     -- whether it is settled and quiet
     some_audited : Some! (IsAudited w m)
-    some_audited = some_by (IsSettled w m)
-        (λ settled. some_by (IsQuiet w m)
+    some_audited = some_by (IsSettledByRules w m)
+        (λ settled. some_by (IsQuietByRules w m)
         (λ quiet none. none (codes "settled=yes quiet=yes sound=yes") (inr (inr (settled, quiet, laws.settled w m replayed runs settled quiet, refl))))
         (λ not none. none (codes "settled=yes quiet=no") (inr (inl (settled, not, refl)))))
         (λ not none. none (codes "settled=no") (inl (not, refl)))
@@ -89,12 +89,12 @@ module _ (laws : ReportLaws) (w : Parts) (replayed : IsReplayed w) (name : Name)
     some_audit_line : Some! (IsAuditLine name w m)
     some_audit_line = some_then some_audited (λ told is none. none (audit_line name told) (record { told = told; is_audited = is; line_is = refl }))
 
-    known : IsSettled w m → IsKnown w m
+    known : IsSettledByRules w m → IsKnown w m
     known settled = record { sound = laws.sound; see = laws.see; replayed = replayed; runs = runs; settled = settled }
 
     -- whether its set is still, by addresses
     some_addressed : Some! (IsAddressed w m)
-    some_addressed = some_by (IsSettled w m)
+    some_addressed = some_by (IsSettledByRules w m)
         (λ settled. some_by (AreAddressesStill w m)
         (λ still none. none (codes "settled=yes still=yes alone=yes") (inr (inr (still, are_alone laws.version laws.said laws.stays w m (known settled) still, refl))))
         (λ not none. none (codes "settled=yes still=no") (inr (inl (settled, not, refl)))))
@@ -105,7 +105,7 @@ module _ (laws : ReportLaws) (w : Parts) (replayed : IsReplayed w) (name : Name)
 
     -- and by delegated prefixes
     some_ulas : Some! (IsUlasTold w m)
-    some_ulas = some_by (IsSettled w m)
+    some_ulas = some_by (IsSettledByRules w m)
         (λ settled. some_by (ArePrefixesStill w m)
         (λ still. some_then (some_count (filter (is_in_set m.router.reach) w.members)) (λ count have none.
         none _ (inr (inr (still, (count, ula_count laws.network laws.entries w m (known settled) still count have, refl))))))

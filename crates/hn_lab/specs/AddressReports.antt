@@ -8,7 +8,7 @@ use Rattle.hn_data.specs.Said.{HasAddress}
 use Rattle.hn_own.specs.Addresses.{OwnAddress}
 use Rattle.hn_prefix.specs.AddressText.{address_text_of}
 use Rattle.hn_audit.specs.Reached.{IsReached}
-use Rattle.hn_audit.specs.Settled.{IsSettled}
+use Rattle.hn_audit.specs.Settled.{IsSettledByRules}
 use Rattle.hn_world.specs.declared.member.Member.{Member}
 use Rattle.hn_world.specs.declared.parts.Parts.{Parts}
 
@@ -24,7 +24,7 @@ addresses_lines name m =
 
 -- r is settled, and each of its set is still: nothing would be chosen anew
 abbrev pub AreAddressesStill : Parts → Member → Type 0
-AreAddressesStill w r = IsSettled w r × ((s : Member) → IsReached w r s → IsAddressStill s.router)
+AreAddressesStill w r = IsSettledByRules w r × ((s : Member) → IsReached w r s → IsAddressStill s.router)
 
 -- No address is published twice: not by two of the set, and not on two endpoints of one.
 abbrev pub AreAlone : Parts → Member → Type 0
@@ -35,8 +35,8 @@ AreAlone w r =
 -- Whether it is settled, and where it is, whether all are still. Then no address is published twice.
 abbrev pub IsAddressed : Parts → Member → List ℕ → Type 0
 IsAddressed w r told =
-    (¬ IsSettled w r × (told ≡ codes "settled=no"))
-    ⊎ ((IsSettled w r × ¬ AreAddressesStill w r × (told ≡ codes "settled=yes still=no"))
+    (¬ IsSettledByRules w r × (told ≡ codes "settled=no"))
+    ⊎ ((IsSettledByRules w r × ¬ AreAddressesStill w r × (told ≡ codes "settled=yes still=no"))
     ⊎ (AreAddressesStill w r × AreAlone w r × (told ≡ codes "settled=yes still=yes alone=yes")))
 
 -- the report on a router and its set

@@ -7,7 +7,7 @@ use Rattle.hn_world.specs.declared.copies.MailCopy.{MailCopy}
 use Rattle.hn_world.specs.Refusal.{copy_at}
 use Rattle.hn_lab.specs.declared.end.End.TheVariants as end
 use Rattle.hn_lab.specs.Carrying.{sent_from}
-use Rattle.hn_lab.specs.Laws.{IsTold}
+use Rattle.hn_lab.specs.Laws.{IsKnownRoute}
 use Rattle.hn_lab.specs.Play.{IsPlay, IsCut}
 use Rattle.hn_lab.specs.Stage.{Stage, Ports}
 
@@ -27,5 +27,5 @@ pub record CopyFails (before after : Stage) : Type 0 where
 -- Where such a wire ends a play, the play could as well have been cut right before a copy, and that copy failed.
 abbrev pub WireFailsAtACopy : Type 0
 WireFailsAtACopy =
-    (fault : IoFault) (lines : List (ℕ × Line)) (before after : Stage) → IsTold before.route → IsPlay lines end.WireFailed before after
+    (fault : IoFault) (lines : List (ℕ × Line)) (before after : Stage) → IsKnownRoute before.route → IsPlay lines end.WireFailed before after
     → (at : Stage) × IsCut fault lines before at × CopyFails at after

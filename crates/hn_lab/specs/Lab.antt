@@ -11,7 +11,7 @@ use Rattle.hn_world.specs.declared.parts.Parts.{Parts}
 use Rattle.hn_lab.specs.declared.end.End.{End}
 use Rattle.hn_lab.specs.declared.end.End.TheVariants.{Done, Refused, WireFailed}
 use Rattle.hn_lab.specs.Carrying.{IsLeftAt}
-use Rattle.hn_lab.specs.Laws.{IsTold}
+use Rattle.hn_lab.specs.Laws.{IsKnownRoute}
 use Rattle.hn_lab.specs.Output.{IsPart, IsFrontOf, IsCutText}
 use Rattle.hn_lab.specs.Play.{begun, IsPlay, IsCut, IsCutPlay}
 use Rattle.hn_lab.specs.Reports.{refused_line}
@@ -32,12 +32,12 @@ play_status (Err NoMemory) = 6
 
 -- by mail, or over a wire that tells what waits: the lines of a script can be played to their end; one is refused
 pub record HasDonePlay (route : Route) (script : Script) : Type 0 where
-  pub told : IsTold route
+  pub told : IsKnownRoute route
   pub after : Stage
   pub play : IsPlay script.lines Done (begun route script.version) after
 
 pub record HasRefusal (route : Route) (script : Script) : Type 0 where
-  pub told : IsTold route
+  pub told : IsKnownRoute route
   pub line : ℕ
   pub code : ℕ
   pub after : Stage

@@ -42,9 +42,9 @@ pub record ResultsAreUnique : Type 0 where
   pub exchanges : ExchangeIsUnique
 
 -- what copies come to is known: by mail, and over a wire that tells what waits
-abbrev pub IsTold : Route → Type 0
-IsTold Mail = ⊤
-IsTold (Ports base waiting) = (datagrams : List Datagram) × (waiting ≡ Some datagrams)
+abbrev pub IsKnownRoute : Route → Type 0
+IsKnownRoute Mail = ⊤
+IsKnownRoute (Ports base waiting) = (datagrams : List Datagram) × (waiting ≡ Some datagrams)
 
 -- the wire did not end a play
 abbrev pub IsUnbroken : End → Type 0
@@ -54,28 +54,28 @@ IsUnbroken _ = ⊤
 -- Lines have at most one play: one end, one text, and one world with the random words that are to come.
 abbrev pub AtMostOnePlay : Type 0
 AtMostOnePlay =
-    (lines : List (ℕ × Line)) (r q : End) (before a b : Stage) → IsTold before.route → IsUnbroken r → IsUnbroken q
+    (lines : List (ℕ × Line)) (r q : End) (before a b : Stage) → IsKnownRoute before.route → IsUnbroken r → IsUnbroken q
     → IsPlay lines r before a → IsPlay lines q before b → (r ≡ q) × (a ≡ b)
 
 -- At each line of its text, a play is cut in one way: with one text up to there, and one world.
 abbrev pub AtMostOneCutPlay : Type 0
 AtMostOneCutPlay =
-    (lines : List (ℕ × Line)) (before a b : Stage) → IsTold before.route → IsCutPlay lines before a → IsCutPlay lines before b
+    (lines : List (ℕ × Line)) (before a b : Stage) → IsKnownRoute before.route → IsCutPlay lines before a → IsCutPlay lines before b
     → length a.text ≡ length b.text → (a.text ≡ b.text) × (a.world ≡ b.world)
 
 -- The text of a play that is cut, wherever, is a front of the text of each play that is not; and of two that are cut, one
 -- text is a front of the other.
 pub record CutTextsAreFronts : Type 0 where
-  pub of_whole : (fault : IoFault) (lines : List (ℕ × Line)) (ending : End) (before a b : Stage) → IsTold before.route → IsUnbroken ending
+  pub of_whole : (fault : IoFault) (lines : List (ℕ × Line)) (ending : End) (before a b : Stage) → IsKnownRoute before.route → IsUnbroken ending
       → IsCut fault lines before a → IsPlay lines ending before b → (rest : List Told) × (b.text ≡ a.text ++ rest)
-  pub of_cut : (fault other : IoFault) (lines : List (ℕ × Line)) (before a b : Stage) → IsTold before.route
+  pub of_cut : (fault other : IoFault) (lines : List (ℕ × Line)) (before a b : Stage) → IsKnownRoute before.route
       → IsCut fault lines before a → IsCut other lines before b
       → ((rest : List Told) × (b.text ≡ a.text ++ rest)) ⊎ ((rest : List Told) × (a.text ≡ b.text ++ rest))
 
 -- The text of a play that the wire ended is a front of the text of each play that it does not end.
 abbrev pub BrokenTextsAreFronts : Type 0
 BrokenTextsAreFronts =
-    (lines : List (ℕ × Line)) (ending : End) (before a b : Stage) → IsTold before.route → IsUnbroken ending
+    (lines : List (ℕ × Line)) (ending : End) (before a b : Stage) → IsKnownRoute before.route → IsUnbroken ending
     → IsPlay lines end.WireFailed before a → IsPlay lines ending before b → (rest : List Told) × (b.text ≡ a.text ++ rest)
 
 -- By mail a delivery is no more than the event.

@@ -28,7 +28,7 @@ use Rattle.hn_lab.specs.Choosing.{chosen_event, decided_event, Chooses}
 use Rattle.hn_lab.specs.Delivery.{EventNotes, EventEnds, DeliveryEnds}
 use Rattle.hn_lab.specs.Events.{Flow, Runs}
 use Rattle.hn_lab.specs.Report.{unless_elects, ReportEnds}
-use Rattle.hn_lab.specs.Sending.{Turns, Solicits, starting, ending, ending_all}
+use Rattle.hn_lab.specs.Sending.{Turns, Solicits, starting, ended_sending, ending_all}
 use Rattle.hn_lab.specs.Syncing.{SyncEnds}
 use Rattle.hn_lab.specs.Tells.{TellsLines, note_lines}
 use Rattle.hn_lab.specs.UlaReports.{ula_line}
@@ -126,7 +126,7 @@ OtherEnds _ stop before after = ⊥
 -- of its endpoint, or a stop or a start of its router
 abbrev pub Follows : WEvent → Process
 Follows (event.Tick name) stop before after = Turns name stop before after
-Follows (event.Detach name e) stop before after = Sets (ending name e) stop before after
+Follows (event.Detach name e) stop before after = Sets (ended_sending name e) stop before after
 Follows (event.Stop name) stop before after = Sets (ending_all name) stop before after
 Follows (event.Start name) stop before after = Sets (ending_all name) stop before after
 Follows _ stop before after = Nothing stop before after

@@ -14,7 +14,7 @@ use Rattle.hn_deleg.specs.Used.{AreUsable, whole_seconds}
 use Rattle.hn_rules.specs.Seen.{seen_by, IsElectedAt}
 use Rattle.hn_script.specs.Field.{letter_text}
 use Rattle.hn_world.specs.declared.member.Member.{Member}
-use Rattle.hn_lab.specs.Reports.{yes_no}
+use Rattle.hn_base.specs.YesNo.{yes_no}
 
 -- a delegated prefix that a router uses
 abbrev pub use_line : Name → Delegated → List ℕ

@@ -3,6 +3,7 @@ use Rattle.std.specs.Prelude.{◌≡◌, ◌↔◌, ℕ, Bool, if◌then◌else�
 use Rattle.std.specs.Fmt.{decimal}
 use Rattle.hn_base.specs.HexText.{hex_text, id_text}
 use Rattle.hn_base.specs.Name.{name_text}
+use Rattle.hn_base.specs.YesNo.{yes_no}
 use Rattle.hn_base.specs.declared.name.Name.{Name}
 use Rattle.hn_hash.specs.declared.agreement.Agreement.{Agreement}
 use Rattle.hn_hash.specs.declared.agreement.Agreement.TheVariants.{Differ, Same, Collide}
@@ -13,9 +14,6 @@ use Rattle.hn_store.specs.declared.state.Took.{Took}
 use Rattle.hn_store.specs.declared.state.Took.TheVariants as took
 use Rattle.hn_world.specs.Leaves.{Agrees}
 use Rattle.hn_world.specs.declared.member.Member.{Member}
-
-abbrev pub yes_no : Bool → List ℕ
-yes_no answer = if answer then codes "yes" else codes "no"
 
 -- the report on a router: how many nodes it reaches, the own one among them, and how many others it holds
 abbrev pub show_line : Name → Member → List ℕ

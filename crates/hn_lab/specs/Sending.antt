@@ -105,8 +105,8 @@ starting name e p =
     record p { senders = with_sender (record { name = name; endpoint = e; sender = started_sender p.world.moment; shape = None }) p.senders }
 
 -- an endpoint sends no more; those of a router send no more
-abbrev pub ending : Name → EpId → Stage → Stage
-ending name e p = record p { senders = without_sender name e p.senders }
+abbrev pub ended_sending : Name → EpId → Stage → Stage
+ended_sending name e p = record p { senders = without_sender name e p.senders }
 
 abbrev pub ending_all : Name → Stage → Stage
 ending_all name p = record p { senders = without_senders name p.senders }

@@ -30,8 +30,8 @@ abbrev pub telling : List (List ℕ) → Stage → Stage
 telling lines p = record p { text = p.text ++ told p.world lines }
 
 -- the words to come: zeros, or those of a generator
-abbrev pub words_of : Stream → ℕ → ℕ
-words_of s = option_map_or pcg_word s.seeded (λ _. 0)
+abbrev pub stream_words : Stream → ℕ → ℕ
+stream_words s = option_map_or pcg_word s.seeded (λ _. 0)
 
 -- the route from a base, if there is one, over a wire on which these datagrams wait
 abbrev pub route_of : Option ℕ → Option (List Datagram) → Route
@@ -43,7 +43,7 @@ abbrev pub stage_of : Playing → Route → List Told → Stage
 stage_of p route text = record {
   world = p.world;
   loss = p.loss;
-  words = words_of p.words;
+  words = stream_words p.words;
   route = route;
   senders = p.senders;
   text = text;

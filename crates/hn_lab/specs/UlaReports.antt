@@ -11,7 +11,7 @@ use Rattle.hn_ula.specs.declared.decision.Ula.{Ula}
 use Rattle.hn_ula.specs.declared.decision.Ula.TheVariants as ula
 use Rattle.hn_audit.specs.Reached.{IsReached}
 use Rattle.hn_audit.specs.Set.{is_in_set}
-use Rattle.hn_audit.specs.Settled.{IsSettled}
+use Rattle.hn_audit.specs.Settled.{IsSettledByRules}
 use Rattle.hn_world.specs.declared.member.Member.{Member}
 use Rattle.hn_world.specs.declared.parts.Parts.{Parts}
 
@@ -26,7 +26,7 @@ ula_line name decided = codes "ula " ++ name_text name ++ codes " " ++ ula_text 
 
 -- r is settled, and each of its set is still: nothing would be decided anew
 abbrev pub ArePrefixesStill : Parts → Member → Type 0
-ArePrefixesStill w r = IsSettled w r × ((s : Member) → IsReached w r s → IsUlaStill s.router)
+ArePrefixesStill w r = IsSettledByRules w r × ((s : Member) → IsReached w r s → IsUlaStill s.router)
 
 -- a router has a generated prefix; of a list of routers, that many have one
 abbrev pub HasGenerated : Member → Type 0
@@ -50,8 +50,8 @@ pub record IsUlaCount (w : Parts) (r : Member) (count : ℕ) : Type 0 where
 -- Whether it is settled, and where it is, whether all are still, and how many have one then.
 abbrev pub IsUlasTold : Parts → Member → List ℕ → Type 0
 IsUlasTold w r told =
-    (¬ IsSettled w r × (told ≡ codes "settled=no"))
-    ⊎ ((IsSettled w r × ¬ ArePrefixesStill w r × (told ≡ codes "settled=yes still=no"))
+    (¬ IsSettledByRules w r × (told ≡ codes "settled=no"))
+    ⊎ ((IsSettledByRules w r × ¬ ArePrefixesStill w r × (told ≡ codes "settled=yes still=no"))
     ⊎ (ArePrefixesStill w r × ((count : ℕ) × IsUlaCount w r count × (told ≡ codes "settled=yes still=yes count=" ++ decimal count))))
 
 -- the report on a router and its set

@@ -8,7 +8,7 @@ ghost use Rattle.hn_world.specs.Waiting.{first_waiting};
 ghost use Rattle.hn_lab.specs.declared.end.Stop.{Stop};
 ghost use Rattle.hn_lab.specs.Ended.{Ended};
 ghost use Rattle.hn_lab.specs.Events.{TreatmentEnds, CopyEnds, Flow, drawn, is_lost};
-ghost use Rattle.hn_lab.specs.Stage.{Route, stage_of, words_of};
+ghost use Rattle.hn_lab.specs.Stage.{Route, stage_of, stream_words};
 ghost use Rattle.hn_lab.specs.Told.{Told};
 
 use crate::carrying::Carrier;
@@ -24,9 +24,9 @@ fn loses(playing: &mut Playing) -> bool
     ensures world { playing.new.world ≡ playing.old.world }
     ensures loss { playing.new.loss ≡ playing.old.loss }
     ensures senders { playing.new.senders ≡ playing.old.senders }
-    ensures words { words_of playing.new.words ≡ (if playing.old.loss == 0 then words_of playing.old.words
-        else (λ place. words_of playing.old.words (suc place))) }
-    ensures lost { result ≡ nat_lt (words_of playing.old.words 0 % 100) playing.old.loss }
+    ensures words { stream_words playing.new.words ≡ (if playing.old.loss == 0 then stream_words playing.old.words
+        else (λ place. stream_words playing.old.words (suc place))) }
+    ensures lost { result ≡ nat_lt (stream_words playing.old.words 0 % 100) playing.old.loss }
 {
     playing.loss > 0 && playing.words.next() % 100 < u32::from(playing.loss)
 }

@@ -4,9 +4,8 @@ ghost use Rattle.std.specs.Prelude.{◌≡◌, ◌++◌, map, IfOk, OnOk, string
 ghost use Rattle.hn_lab.specs.PrefixReports.{use_line, used_lines, AreUsedLines, published_text, prefix_line, prefixes_lines, elected_text, IsElectLine};
 
 use crate::lines::Lines;
-use crate::reports::yes_no;
 use hn_assign::Assigned;
-use hn_base::{EpId, Letter, Name, NoMemory, NodeId};
+use hn_base::{yes_no, EpId, Letter, Name, NoMemory, NodeId};
 use hn_deleg::{Delegated, whole_seconds};
 use hn_script::letter_text;
 use hn_world::Member;

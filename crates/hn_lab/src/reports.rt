@@ -6,18 +6,12 @@ ghost use Rattle.hn_world.specs.declared.member.Member.{Member as AMember};
 ghost use Rattle.hn_world.specs.Names.{member_named};
 ghost use Rattle.hn_world.specs.Asked.{unless_both_run};
 ghost use Rattle.hn_lab.specs.Report.{Compares, mail_report};
-ghost use Rattle.hn_lab.specs.Reports.{yes_no, show_line, hash_line, agreement_text, compare_line, refused_line};
+ghost use Rattle.hn_lab.specs.Reports.{show_line, hash_line, agreement_text, compare_line, refused_line};
 
-use hn_base::{Hex, Name, NoMemory};
+use hn_base::{yes_no, Hex, Name, NoMemory};
 use hn_hash::Agreement;
 use hn_world::{Member, World};
 use std::alloc::{AllocError, Global};
-
-pub(crate) fn yes_no(answer: bool) -> &'static str
-    ensures { result.now ≡ yes_no answer }
-{
-    if answer { "yes" } else { "no" }
-}
 
 /// The line on a router.
 pub(crate) fn show_line(alloc: Global, name: &Name, member: &Member) -> Result<String, AllocError>

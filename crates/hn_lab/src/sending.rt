@@ -12,7 +12,7 @@ ghost use Rattle.hn_lab.specs.Delivery.{EventEnds};
 ghost use Rattle.hn_lab.specs.Ended.{IsAnswered, IsAnsweredLeaving, Leaves};
 ghost use Rattle.hn_lab.specs.Line.{OtherEnds, Follows, Sets};
 ghost use Rattle.hn_lab.specs.Process.{ThenProcess, EachProcess};
-ghost use Rattle.hn_lab.specs.Sending.{ra_line, IsAsked, IsDue, TurnEnds, TickEnds, ending, ending_all};
+ghost use Rattle.hn_lab.specs.Sending.{ra_line, IsAsked, IsDue, TurnEnds, TickEnds, ended_sending, ending_all};
 ghost use Rattle.hn_lab.specs.Stage.{Route, stage_of};
 ghost use Rattle.hn_lab.specs.Told.{Told};
 ghost use Rattle.hn_lab.specs.Writing.{EndsWriting};
@@ -170,7 +170,7 @@ fn detach(
     endpoint: EpId,
 ) -> Result<(), WorldFault>
     ensures { (route : Route) (text : List Told) → IsAnswered
-        (ThenProcess (EventEnds (an_event.Detach name endpoint)) (Sets (ending name endpoint))) result
+        (ThenProcess (EventEnds (an_event.Detach name endpoint)) (Sets (ended_sending name endpoint))) result
         (stage_of playing.old route text) (stage_of playing.new route text) }
 {
     playing.event(alloc, WEvent::Detach { name, endpoint })?;

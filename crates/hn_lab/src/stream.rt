@@ -2,7 +2,7 @@ ghost use Rattle.std.specs.Prelude.{◌≡◌};
 ghost use Rattle.rand_core.specs.Pcg32Seed.{pcg32_seed};
 ghost use Rattle.rand_pcg.specs.Pcg.{pcg32_of_seed};
 ghost use Rattle.hn_io.specs.Pcg.{pcg_word};
-ghost use Rattle.hn_lab.specs.Stage.{words_of};
+ghost use Rattle.hn_lab.specs.Stage.{stream_words};
 
 use hn_io::{Draw, Pcg};
 
@@ -15,14 +15,14 @@ pub struct Stream {
 impl Stream {
     /// Zeros. Never allocates.
     pub(crate) fn zeros() -> Stream
-        ensures { words_of result ≡ (λ _. 0) }
+        ensures { stream_words result ≡ (λ _. 0) }
     {
         Stream { seeded: None }
     }
 
     /// The words of a seed. Never allocates.
     pub(crate) fn of_seed(seed: u64) -> Stream
-        ensures { words_of result ≡ pcg_word (pcg32_of_seed (pcg32_seed 16 seed)) }
+        ensures { stream_words result ≡ pcg_word (pcg32_of_seed (pcg32_seed 16 seed)) }
     {
         Stream {
             seeded: Some(Pcg::new(seed)),
@@ -33,7 +33,7 @@ impl Stream {
 impl Draw for Stream {
     ghost use Rattle.std.specs.Prelude.{Some};
 
-    ghost words = { λ s. Some (words_of s) };
+    ghost words = { λ s. Some (stream_words s) };
 
     fn next(&mut self) -> u32 {
         match &mut self.seeded {

@@ -2,7 +2,7 @@
 use Rattle.hn_base.proofs.Names.{◌≡◌, ◌≢◌, ◌⊎◌, inl, inr, ℕ, ◌<◌, List, [], ◌∷◌, length, get_or, codes, Option, None, Some, sym, ap, subst, ◌∙◌, arith, IfNone, get_or-map, name_text}
 use Rattle.hn_look.proofs.Names.{Name, Parts, Sees, SeesTable, SeesWhy, MayStarve, Log, Table, Why}
 use Rattle.std.specs.Prelude.{map}
-use Rattle.hn_look.specs.Form.{IsNamed, IsPlainWord, AreNamedWords, IsFormOf}
+use Rattle.hn_look.specs.Form.{IsNamed, IsLookWord, AreNamedWords, IsLookFormOf}
 use Rattle.hn_look.specs.Look.{SeesLog}
 use Rattle.hn_look.specs.declared.words.Form.{Form}
 
@@ -14,31 +14,31 @@ word_at text words i word found within is found_is = get_or-map text words i wor
 at : (words more : List (List ℕ)) (i : ℕ) → words ≡ more → get_or words i [] ≡ get_or more i []
 at words more i same = ap (λ (found : List (List ℕ)). get_or found i []) same
 
-plain_word : (form : Form) (words : List (List ℕ)) → length words < 3 → IsFormOf form words → IsPlainWord form (get_or words 1 [])
+plain_word : (form : Form) (words : List (List ℕ)) → length words < 3 → IsLookFormOf form words → IsLookWord form (get_or words 1 [])
 plain_word Log words few h = at words _ 1 h.1
 plain_word (Table name) words few h = absurd (omega (arith, ap length h.2))
 plain_word (Why name) words few h = absurd (omega (arith, ap length h.2))
 
-named_words : (form : Form) (words : List (List ℕ)) → length words ≡ 3 → IsFormOf form words → AreNamedWords form (get_or words 1 []) (get_or words 2 [])
+named_words : (form : Form) (words : List (List ℕ)) → length words ≡ 3 → IsLookFormOf form words → AreNamedWords form (get_or words 1 []) (get_or words 2 [])
 named_words Log words three h = absurd (omega (arith, ap length h.1))
 named_words (Table name) words three h = (at words _ 1 h.2, subst (IsNamed name) (sym (at words _ 2 h.2)) h.3)
 named_words (Why name) words three h = (at words _ 1 h.2, subst (IsNamed name) (sym (at words _ 2 h.2)) h.3)
 
 -- two words are bad usage if the second is no form's, and three if the further one is none's
 pub no_plain_form : (r : Option Form) (word : List ℕ) (words : List (List ℕ)) → length words < 3 → get_or words 1 [] ≡ word
-    → IfNone r ((form : Form) → IsPlainWord form word → ⊥) → IfNone r ((form : Form) → IsFormOf form words → ⊥)
-no_plain_form None word words few is none = λ form h. none form (subst (IsPlainWord form) is (plain_word form words few h))
+    → IfNone r ((form : Form) → IsLookWord form word → ⊥) → IfNone r ((form : Form) → IsLookFormOf form words → ⊥)
+no_plain_form None word words few is none = λ form h. none form (subst (IsLookWord form) is (plain_word form words few h))
 no_plain_form (Some found) word words few is none = tt
 
 pub no_named_form : (r : Option Form) (word name : List ℕ) (words : List (List ℕ)) → length words ≡ 3 → get_or words 1 [] ≡ word → get_or words 2 [] ≡ name
-    → IfNone r ((form : Form) → AreNamedWords form word name → ⊥) → IfNone r ((form : Form) → IsFormOf form words → ⊥)
+    → IfNone r ((form : Form) → AreNamedWords form word name → ⊥) → IfNone r ((form : Form) → IsLookFormOf form words → ⊥)
 no_named_form None word name words three first second none = λ form h.
     let asks = named_words form words three h in
     none form (subst (λ (w : List ℕ). AreNamedWords form word w) second (subst (λ (w : List ℕ). AreNamedWords form w (get_or words 2 [])) first asks))
 no_named_form (Some found) word name words three first second none = tt
 
 -- no other words ask for a form
-pub no_form : (words : List (List ℕ)) → length words < 2 ⊎ 3 < length words → (form : Form) → IsFormOf form words → ⊥
+pub no_form : (words : List (List ℕ)) → length words < 2 ⊎ 3 < length words → (form : Form) → IsLookFormOf form words → ⊥
 no_form words many Log h = let long = ap length h.1 in elim many [ inl few ↦ absurd (omega arith) | inr more ↦ absurd (omega arith) ]
 no_form words many (Table name) h = let long = ap length h.2 in elim many [ inl few ↦ absurd (omega arith) | inr more ↦ absurd (omega arith) ]
 no_form words many (Why name) h = let long = ap length h.2 in elim many [ inl few ↦ absurd (omega arith) | inr more ↦ absurd (omega arith) ]
@@ -55,12 +55,12 @@ other_word : (words : List (List ℕ)) (p q a b word other : List ℕ) → words
 other_word words p q a b word other h k apart = apart (ap length (sym (at words _ 1 h) ∙ at words _ 1 k))
 
 module _ (P : Type 0 → (Parts → ℕ → List ℕ → Type 0) → Type 0) (words : List (List ℕ)) where
-  pub as_log : (form : Form) → IsFormOf form words → IsFormOf Log words → P (MayStarve form) (Sees form) → P ⊥ SeesLog
+  pub as_log : (form : Form) → IsLookFormOf form words → IsLookFormOf Log words → P (MayStarve form) (Sees form) → P ⊥ SeesLog
   as_log Log found asked holds = holds
   as_log (Table name) found asked holds = absurd (omega (arith, ap length (sym found.2 ∙ asked.1)))
   as_log (Why name) found asked holds = absurd (omega (arith, ap length (sym found.2 ∙ asked.1)))
 
-  pub as_table : (form : Form) (name : Name) → IsFormOf form words → IsFormOf (Table name) words → P (MayStarve form) (Sees form) → P (Unit {0}) (SeesTable (name_text name))
+  pub as_table : (form : Form) (name : Name) → IsLookFormOf form words → IsLookFormOf (Table name) words → P (MayStarve form) (Sees form) → P (Unit {0}) (SeesTable (name_text name))
   as_table Log name found asked holds = absurd (omega (arith, ap length (sym found.1 ∙ asked.2)))
   as_table (Table other) name found asked holds =
       subst (λ (text : List ℕ). P (Unit {0}) (SeesTable text))
@@ -68,7 +68,7 @@ module _ (P : Type 0 → (Parts → ℕ → List ℕ → Type 0) → Type 0) (wo
   as_table (Why other) name found asked holds =
       absurd (other_word words found.0 asked.0 found.1 asked.1 (codes "why") (codes "table") found.2 asked.2 (λ same. omega arith))
 
-  pub as_why : (form : Form) (name : Name) → IsFormOf form words → IsFormOf (Why name) words → P (MayStarve form) (Sees form) → P (Unit {0}) (SeesWhy (name_text name))
+  pub as_why : (form : Form) (name : Name) → IsLookFormOf form words → IsLookFormOf (Why name) words → P (MayStarve form) (Sees form) → P (Unit {0}) (SeesWhy (name_text name))
   as_why Log name found asked holds = absurd (omega (arith, ap length (sym found.1 ∙ asked.2)))
   as_why (Table other) name found asked holds =
       absurd (other_word words found.0 asked.0 found.1 asked.1 (codes "table") (codes "why") found.2 asked.2 (λ same. omega arith))

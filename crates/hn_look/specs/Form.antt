@@ -7,9 +7,9 @@ use Rattle.hn_look.specs.declared.words.Form.{Form}
 use Rattle.hn_look.specs.declared.words.Form.TheVariants.{Log, Table, Why}
 
 -- the word of a form without a name
-abbrev pub IsPlainWord : Form → List ℕ → Type 0
-IsPlainWord Log word = word ≡ codes "log"
-IsPlainWord _ word = ⊥
+abbrev pub IsLookWord : Form → List ℕ → Type 0
+IsLookWord Log word = word ≡ codes "log"
+IsLookWord _ word = ⊥
 
 -- a word is the text of a name
 pub record IsNamed (name : Name) (word : List ℕ) : Type 0 where
@@ -23,9 +23,9 @@ AreNamedWords (Table name) word name_word = (word ≡ codes "table") × IsNamed 
 AreNamedWords (Why name) word name_word = (word ≡ codes "why") × IsNamed name name_word
 
 -- the words of the command line ask for a form: the program's name, and the words of the form
-abbrev pub IsFormOf : Form → List (List ℕ) → Type 0
-IsFormOf Log words = (program : List ℕ) × (words ≡ program ∷ codes "log" ∷ [])
-IsFormOf (Table name) words =
+abbrev pub IsLookFormOf : Form → List (List ℕ) → Type 0
+IsLookFormOf Log words = (program : List ℕ) × (words ≡ program ∷ codes "log" ∷ [])
+IsLookFormOf (Table name) words =
     (program name_word : List ℕ) × (words ≡ program ∷ codes "table" ∷ name_word ∷ []) × IsNamed name name_word
-IsFormOf (Why name) words =
+IsLookFormOf (Why name) words =
     (program name_word : List ℕ) × (words ≡ program ∷ codes "why" ∷ name_word ∷ []) × IsNamed name name_word

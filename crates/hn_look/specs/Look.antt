@@ -94,14 +94,14 @@ abbrev pub Cuts : (ℕ → List ℕ → Type 0) → IoFault → Option (List ℕ
 Cuts IsText fault before after = (status : ℕ) × (text : List ℕ) × IsText status text × AppendsCut fault before after text
 
 -- the memory ended before there was a text, where that may be (`Starving`), and nothing was written
-abbrev pub Starves : Type 0 → IoFault → Option (List ℕ) → Option (List ℕ) → Type 0
-Starves Starving Failed before after = ⊥
-Starves Starving NoMemory before after = Starving × Appends before after []
+abbrev pub StarvesLook : Type 0 → IoFault → Option (List ℕ) → Option (List ℕ) → Type 0
+StarvesLook Starving Failed before after = ⊥
+StarvesLook Starving NoMemory before after = Starving × Appends before after []
 
 -- by the answer of a call that writes
 abbrev pub Looked : Type 0 → (ℕ → List ℕ → Type 0) → Result ℕ IoFault → Option (List ℕ) → Option (List ℕ) → Type 0
 Looked Starving IsText (Ok status) before after = Writes IsText status before after
-Looked Starving IsText (Err fault) before after = Cuts IsText fault before after ⊎ Starves Starving fault before after
+Looked Starving IsText (Err fault) before after = Cuts IsText fault before after ⊎ StarvesLook Starving fault before after
 
 -- the status of such a call
 abbrev pub looked_status : Result ℕ IoFault → ℕ
@@ -114,7 +114,7 @@ abbrev pub IsUnseen : ℕ → ℕ → Option (List ℕ) → Option (List ℕ) �
 IsUnseen played status before after = (played ≡ 6) × (status ≡ 6) × Appends before after []
 
 -- a look at the world of a play
-pub record IsSeen (Starving : Type 0) (sees : Parts → ℕ → List ℕ → Type 0) (played : ℕ) (world : Option Parts)
+pub record IsLookedAt (Starving : Type 0) (sees : Parts → ℕ → List ℕ → Type 0) (played : ℕ) (world : Option Parts)
     (transcript : List ℕ) (status : ℕ) (before after : Option (List ℕ)) : Type 0 where
   pub answer : Result ℕ IoFault
   pub status_is : status ≡ looked_status answer
@@ -127,4 +127,4 @@ pub record IsLookRun (Starving : Type 0) (sees : Parts → ℕ → List ℕ → 
   pub world : Option Parts
   pub transcript : List ℕ
   pub plays : IsLabRun Mail Mail left played world (Some []) (Some transcript)
-  pub comes : IsUnseen played status before after ⊎ IsSeen Starving sees played world transcript status before after
+  pub comes : IsUnseen played status before after ⊎ IsLookedAt Starving sees played world transcript status before after

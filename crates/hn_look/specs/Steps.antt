@@ -2,7 +2,7 @@
 use Rattle.std.specs.Prelude.{ℕ, ◌+◌, ◌-◌, ◌/◌, ◌%◌, ◌^◌, List, [], ◌∷◌, ◌++◌, drop, codes, Option, None, Some}
 use Rattle.std.specs.Fmt.{decimal}
 use Rattle.std.specs.List.{flat_map, slice_get}
-use Rattle.std.specs.Option.{option_map, option_map_or}
+use Rattle.std.specs.Option.{option_map}
 use Rattle.hn_base.specs.HexText.{hex_text}
 use Rattle.hn_base.specs.Name.{name_text}
 use Rattle.hn_base.specs.declared.addr.Addr.{Addr}
@@ -16,6 +16,7 @@ use Rattle.hn_world.specs.declared.event.WEvent.{WEvent}
 use Rattle.hn_world.specs.declared.event.WEvent.TheVariants as event
 use Rattle.hn_world.specs.declared.parts.Parts.{Parts}
 use Rattle.hn_world.specs.Routed.{named_by}
+use Rattle.hn_why.specs.Words.{name_or_dash}
 use Rattle.hn_look.specs.Events.{way_word, event_text}
 
 -- the router at which an event happened: the new one, the one that a copy went to, or the one that the event names
@@ -25,9 +26,6 @@ actor (event.Deliver copy) w = receiver w copy
 actor event w = named_by event
 
 -- an endpoint of the router at a place: its name, `-` where there is none, and its number
-abbrev pub name_or_dash : Option Name → List ℕ
-name_or_dash name = option_map_or name_text name (codes "-")
-
 abbrev pub endpoint_text : Option Name → ℕ → List ℕ
 endpoint_text name endpoint = name_or_dash name ++ codes ":" ++ decimal endpoint
 

@@ -1,7 +1,7 @@
 ghost use Rattle.std.specs.Prelude.{◌≡◌, ◌≢◌, ◌+◌, ◌^◌, ◌≤◌, ℕ, List, [], ◌∷◌, map, length, Contains, string_bytes};
 ghost use Rattle.std.specs.Io.KnownBytes.{Consumes};
 ghost use Rattle.hn_io.specs.Faults.{IsCaused};
-ghost use Rattle.hn_look.specs.Form.{IsFormOf};
+ghost use Rattle.hn_look.specs.Form.{IsLookFormOf};
 ghost use Rattle.hn_look.specs.Look.{Sees, SeesLog, SeesTable, SeesWhy, MayStarve, IsLookRun};
 ghost use Rattle.hn_base.specs.Name.{name_text};
 ghost use Rattle.hn_base.specs.declared.name.Name.{Name};
@@ -51,17 +51,17 @@ fn play_and_look<S: Source, K: Sink>(alloc: Global, form: &Form, src: &mut S, ou
 /// of the source or the sink rose in this call. 6 comes out of memory; no clause says when.
 pub fn run<S: Source, K: Sink>(alloc: Global, words: &[String], src: &mut S, out: &mut K) -> u8
     // Bad usage is what no form's words are; then nothing is touched.
-    ensures form { result ≡ BAD_USAGE → (form : Form) → IsFormOf form (map string_bytes words.now) → ⊥ }
-    ensures bad_usage { ((form : Form) → IsFormOf form (map string_bytes words.now) → ⊥) → result ≡ BAD_USAGE }
+    ensures form { result ≡ BAD_USAGE → (form : Form) → IsLookFormOf form (map string_bytes words.now) → ⊥ }
+    ensures bad_usage { ((form : Form) → IsLookFormOf form (map string_bytes words.now) → ⊥) → result ≡ BAD_USAGE }
     ensures untouched { result ≡ BAD_USAGE → (src.new ≡ src.old) × (out.new ≡ out.old) }
 
     // What each form comes to. After status 3 there is no more to say. A log is written event by event, and the memory never
     // ends before there is a text (⊥); of the others it may (Unit).
-    ensures log { IsFormOf Form.Log (map string_bytes words.now) → result ≢ SOURCE_FAILED
+    ensures log { IsLookFormOf Form.Log (map string_bytes words.now) → result ≢ SOURCE_FAILED
         → IsLookRun ⊥ SeesLog (S.left src.old) result (K.held out.old) (K.held out.new) }
-    ensures table { (name : Name) → IsFormOf (Form.Table name) (map string_bytes words.now) → result ≢ SOURCE_FAILED
+    ensures table { (name : Name) → IsLookFormOf (Form.Table name) (map string_bytes words.now) → result ≢ SOURCE_FAILED
         → IsLookRun Unit (SeesTable (name_text name)) (S.left src.old) result (K.held out.old) (K.held out.new) }
-    ensures why { (name : Name) → IsFormOf (Form.Why name) (map string_bytes words.now) → result ≢ SOURCE_FAILED
+    ensures why { (name : Name) → IsLookFormOf (Form.Why name) (map string_bytes words.now) → result ≢ SOURCE_FAILED
         → IsLookRun Unit (SeesWhy (name_text name)) (S.left src.old) result (K.held out.old) (K.held out.new) }
 
     // Where each status comes from. After 3 nothing was written. Reading ends after 2^24 + 1 bytes.

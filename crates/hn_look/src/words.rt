@@ -14,12 +14,12 @@ pub enum Form {
 }
 
 impl Form {
-    ghost use Rattle.hn_look.specs.Form.{IsFormOf, IsPlainWord, AreNamedWords};
+    ghost use Rattle.hn_look.specs.Form.{IsLookFormOf, IsLookWord, AreNamedWords};
 
     /// The form without a name of this word.
     fn plain(word: &str) -> Option<Form>
-        ensures found { IfSome result (λ form. IsPlainWord form word.now) }
-        ensures none { IfNone result ((form : Form) → IsPlainWord form word.now → ⊥) }
+        ensures found { IfSome result (λ form. IsLookWord form word.now) }
+        ensures none { IfNone result ((form : Form) → IsLookWord form word.now → ⊥) }
     {
         match word {
             "log" => Some(Form::Log),
@@ -43,8 +43,8 @@ impl Form {
     /// The form that the words of the command line ask for, the program's name among them; `None` if and only if they
     /// are bad usage. Never allocates.
     pub fn of(words: &[String]) -> Option<Form>
-        ensures found { IfSome result (λ form. IsFormOf form (map string_bytes words.now)) }
-        ensures none { IfNone result ((form : Form) → IsFormOf form (map string_bytes words.now) → ⊥) }
+        ensures found { IfSome result (λ form. IsLookFormOf form (map string_bytes words.now)) }
+        ensures none { IfNone result ((form : Form) → IsLookFormOf form (map string_bytes words.now) → ⊥) }
     {
         match words {
             [_, form] => Form::plain(form.as_str()),

@@ -1,7 +1,7 @@
 -- The names that proofs of this crate cite most, handed on from one place. Declares nothing.
 pub use Rattle.hn_base.proofs.Results.{on_err}
-pub use Rattle.hn_node.specs.Steps.{Adds, Grows, HandsAll, HandsPart, counted, plain_site}
-pub use Rattle.hn_node.specs.Turns.{Arrives, CutSteps, CutTurn, IsEntry, IsTurn, PlainSite, Serving, Steps, TakesTurn, Turns, handed_in, handed_of, is_tick, plain_of, serving, words_of}
+pub use Rattle.hn_node.specs.Steps.{AddsEntry, Grows, HandsAll, HandsPart, counted, plain_site}
+pub use Rattle.hn_node.specs.Turns.{Arrives, CutSteps, CutTurn, IsLoggedEvent, IsLoggedTurn, PlainSite, Serving, Steps, TakesTurn, AreTurns, handed_in, handed_of, is_tick, plain_of, serving, logged_words}
 pub use Rattle.hn_node.specs.declared.logged.Logged.{Logged}
 pub use Rattle.hn_node.specs.declared.logged.NodeEvent.{NodeEvent}
 pub use Rattle.hn_node.specs.declared.node.Node.{Node}

@@ -1,6 +1,6 @@
 -- An event that was entered in the log, and what came of it that was sent.
 use Rattle.hn_base.proofs.Names.{◌≡◌, ◌∙◌, ℕ, false, List, [], ◌∷◌, ◌++◌, Option, length, get_or, Result, Ok, Err, refl, sym, ap, subst, get_or_push, All, OnOk, OnErr, Took}
-use Rattle.hn_node.proofs.Names.{Datagram, Done, Outgoing, State, Happened, Logged, NodeEvent, Node, PlainSite, serving, handed_of, plain_of, IsEntry, Steps, CutSteps, HandsAll, HandsPart, Adds}
+use Rattle.hn_node.proofs.Names.{Datagram, Done, Outgoing, State, Happened, Logged, NodeEvent, Node, PlainSite, serving, handed_of, plain_of, IsLoggedEvent, Steps, CutSteps, HandsAll, HandsPart, AddsEntry}
 use Rattle.std.specs.Prelude.{◌≤◌}
 use Rattle.std.specs.Result.{is_err}
 use Rattle.hn_router.specs.Act.{PlainEvent}
@@ -34,7 +34,7 @@ module _ (at : PlainSite) (now : ℕ) (event : NodeEvent) (of : PlainEvent) (don
     (is : of ≡ plain_of event) (happened : Happened now of before.router router done) (drew : Took told done.words told_after)
     (arrived : IsShort event) (short : All (λ (o : Outgoing). length o.bytes ≤ 65507) done.sends) (limit : router.table.limit ≡ before.router.table.limit)
     (pushed : log ≡ before.log ++ entry_of now event done ∷ []) (are : sends ≡ done.sends) where
-  entered : IsEntry now event (entry_of now event done) before.router router
+  entered : IsLoggedEvent now event (entry_of now event done) before.router router
   entered = record {
     moment_is = refl;
     event_is = refl;
@@ -46,7 +46,7 @@ module _ (at : PlainSite) (now : ℕ) (event : NodeEvent) (of : PlainEvent) (don
 
   pub stepped : HandsAll (handed_of at sends) waiting after before.sent sent
       → (l : Logged) × Steps at now event l (serving before.router waiting) (serving router after)
-      × Adds l (handed_of at l.sends) told told_after before (record { router = router; log = log; sent = sent })
+      × AddsEntry l (handed_of at l.sends) told told_after before (record { router = router; log = log; sent = sent })
   stepped h =
       let all = subst (λ (os : List Outgoing). HandsAll (handed_of at os) waiting after before.sent sent) are h in (
         entry_of now event done,
@@ -56,7 +56,7 @@ module _ (at : PlainSite) (now : ℕ) (event : NodeEvent) (of : PlainEvent) (don
 
   pub cut_step : HandsPart (handed_of at sends) waiting after before.sent sent
       → (l : Logged) × (front : List Datagram) × CutSteps at now event l front (serving before.router waiting) (serving router after)
-      × Adds l front told told_after before (record { router = router; log = log; sent = sent })
+      × AddsEntry l front told told_after before (record { router = router; log = log; sent = sent })
   cut_step h =
       let part = subst (λ (os : List Outgoing). HandsPart (handed_of at os) waiting after before.sent sent) are h in (
         entry_of now event done,

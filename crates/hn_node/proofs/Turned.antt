@@ -1,6 +1,6 @@
 -- A turn, and one turn more.
 use Rattle.hn_base.proofs.Names.{◌≡◌, ◌+◌, ◌<◌, inl, inr, ℕ, suc, List, [], ◌∷◌, ◌++◌, Option, Some, refl, subst, arith}
-use Rattle.hn_node.proofs.Names.{append-nil, Datagram, Logged, NodeEvent, Node, PlainSite, Serving, serving, handed_of, handed_in, TakesTurn, Steps, CutSteps, Arrives, IsTurn, CutTurn, Turns, Adds}
+use Rattle.hn_node.proofs.Names.{append-nil, Datagram, Logged, NodeEvent, Node, PlainSite, Serving, serving, handed_of, handed_in, TakesTurn, Steps, CutSteps, Arrives, IsLoggedTurn, CutTurn, AreTurns, AddsEntry}
 use Rattle.hn_node.proofs.Names.{Grows}
 use Rattle.hn_wire.specs.Clocks.{ReadsClock}
 use Rattle.hn_node.specs.declared.logged.NodeEvent.TheVariants as node
@@ -10,7 +10,7 @@ use Rattle.hn_node.proofs.Grown.{none_grown, one_grown, both_grown, both_handed}
 
 -- what arrives, of what was taken
 pub arrived : (at : PlainSite) (now : ℕ) (event : NodeEvent) (told told_after : Option (ℕ → ℕ)) (before after : Serving) (a b : Node)
-    → (l : Logged) × Steps at now event l before after × Adds l (handed_of at l.sends) told told_after a b
+    → (l : Logged) × Steps at now event l before after × AddsEntry l (handed_of at l.sends) told told_after a b
     → (entries : List Logged) × Arrives at now (Some event) entries before after × Grows entries (handed_in at entries) told told_after a b
 arrived at now event told told_after before after a b h =
     (h.0 ∷ [], (h.0, h.1, refl), one_grown h.0 (handed_of at h.0.sends) (handed_in at (h.0 ∷ [])) told told_after a b (append-nil (handed_of at h.0.sends)) h.2)
@@ -19,7 +19,7 @@ module _ (at : PlainSite) (now : ℕ) (taken : Option NodeEvent) (waiting left :
   -- the answers to what arrives were not all sent
   pub cut_arrival : (after : Option (List Datagram)) (told_after : Option (ℕ → ℕ)) (b : Node)
       → (event : NodeEvent) × (taken ≡ Some event) × ((l : Logged) × (front : List Datagram)
-      × CutSteps at now event l front (serving a.router left) (serving b.router after) × Adds l front told told_after a b)
+      × CutSteps at now event l front (serving a.router left) (serving b.router after) × AddsEntry l front told told_after a b)
       → (entries : List Logged) × (handed : List Datagram) × CutTurn at now entries handed (serving a.router waiting) (serving b.router after) × Grows entries handed told told_after a b
   cut_arrival after told_after b h =
       let cut = h.2 in (
@@ -39,8 +39,8 @@ module _ (at : PlainSite) (now : ℕ) (taken : Option NodeEvent) (waiting left :
   module _ (between : Option (List Datagram)) (told_between : Option (ℕ → ℕ)) (b : Node)
       (first : (entries : List Logged) × Arrives at now taken entries (serving a.router left) (serving b.router between) × Grows entries (handed_in at entries) told told_between a b)
       (after : Option (List Datagram)) (told_after : Option (ℕ → ℕ)) (c : Node) where
-    pub turned : (l : Logged) × Steps at now node.Tick l (serving b.router between) (serving c.router after) × Adds l (handed_of at l.sends) told_between told_after b c
-        → (entries : List Logged) × IsTurn at now entries (serving a.router waiting) (serving c.router after) × Grows entries (handed_in at entries) told told_after a c
+    pub turned : (l : Logged) × Steps at now node.Tick l (serving b.router between) (serving c.router after) × AddsEntry l (handed_of at l.sends) told_between told_after b c
+        → (entries : List Logged) × IsLoggedTurn at now entries (serving a.router waiting) (serving c.router after) × Grows entries (handed_in at entries) told told_after a c
     turned h =
         let one = one_grown h.0 (handed_of at h.0.sends) (handed_in at (h.0 ∷ [])) told_between told_after b c (append-nil (handed_of at h.0.sends)) h.2 in (
           first.0 ++ h.0 ∷ [],
@@ -59,7 +59,7 @@ module _ (at : PlainSite) (now : ℕ) (taken : Option NodeEvent) (waiting left :
         )
 
     -- what the tick gave was not all sent
-    pub cut_tick : (l : Logged) × (front : List Datagram) × CutSteps at now node.Tick l front (serving b.router between) (serving c.router after) × Adds l front told_between told_after b c
+    pub cut_tick : (l : Logged) × (front : List Datagram) × CutSteps at now node.Tick l front (serving b.router between) (serving c.router after) × AddsEntry l front told_between told_after b c
         → (entries : List Logged) × (handed : List Datagram) × CutTurn at now entries handed (serving a.router waiting) (serving c.router after) × Grows entries handed told told_after a c
     cut_tick h =
         let one = one_grown h.0 h.1 h.1 told_between told_after b c refl h.3 in (
@@ -114,13 +114,13 @@ cut_taking at now waiting after told a fails =
 -- ---- one turn more
 
 module _ (at : PlainSite) (n : ℕ) (readings left rest : Option (List ℕ)) (now : ℕ) (before between : Serving) (told told_between told_after : Option (ℕ → ℕ)) (a b c : Node)
-    (past : (log : List Logged) × Turns at n log before between readings left × Grows log (handed_in at log) told told_between a b) (reads : ReadsClock left now rest) (after : Serving) where
-  pub turn_more : (entries : List Logged) × IsTurn at now entries between after × Grows entries (handed_in at entries) told_between told_after b c
-      → (log : List Logged) × Turns at (n + 1) log before after readings rest × Grows log (handed_in at log) told told_after a c
+    (past : (log : List Logged) × AreTurns at n log before between readings left × Grows log (handed_in at log) told told_between a b) (reads : ReadsClock left now rest) (after : Serving) where
+  pub turn_more : (entries : List Logged) × IsLoggedTurn at now entries between after × Grows entries (handed_in at entries) told_between told_after b c
+      → (log : List Logged) × AreTurns at (n + 1) log before after readings rest × Grows log (handed_in at log) told told_after a c
   turn_more h =
-      let one : Turns at (suc n) (past.0 ++ h.0) before after readings rest = (between, past.0, h.0, now, left, past.1, reads, h.1, refl) in
+      let one : AreTurns at (suc n) (past.0 ++ h.0) before after readings rest = (between, past.0, h.0, now, left, past.1, reads, h.1, refl) in
       let same : suc n ≡ n + 1 = omega arith in
-      (past.0 ++ h.0, subst (λ (k : ℕ). Turns at k (past.0 ++ h.0) before after readings rest) same one, both_handed at past.0 h.0 told told_between told_after a b c past.2 h.2)
+      (past.0 ++ h.0, subst (λ (k : ℕ). AreTurns at k (past.0 ++ h.0) before after readings rest) same one, both_handed at past.0 h.0 told told_between told_after a b c past.2 h.2)
 
   pub cut_after : (turns : ℕ) → n < turns
       → (entries : List Logged) × (handed : List Datagram) × CutTurn at now entries handed between after × Grows entries handed told_between told_after b c
@@ -135,5 +135,5 @@ module _ (at : PlainSite) (n : ℕ) (readings left rest : Option (List ℕ)) (no
 -- ---- no turn
 
 pub no_turn : (at : PlainSite) (before : Serving) (readings : Option (List ℕ)) (told : Option (ℕ → ℕ)) (a : Node)
-    → (log : List Logged) × Turns at 0 log before before readings readings × Grows log (handed_in at log) told told a a
+    → (log : List Logged) × AreTurns at 0 log before before readings readings × Grows log (handed_in at log) told told a a
 no_turn at before readings told a = ([], (refl, refl, refl), none_grown told a)

@@ -5,7 +5,7 @@ use Rattle.hn_wire.specs.declared.datagram.Datagram.{Datagram}
 use Rattle.hn_node.specs.declared.logged.Logged.{Logged}
 use Rattle.hn_node.specs.declared.node.Node.{Node}
 use Rattle.hn_node.specs.declared.sending.Site.{Site}
-use Rattle.hn_node.specs.Turns.{PlainSite, SendsAll, SendsPart, IsBounded, words_of}
+use Rattle.hn_node.specs.Turns.{PlainSite, SendsAll, SendsPart, IsBounded, logged_words}
 
 -- the ports, without where they lie in memory
 abbrev pub plain_site : Site → PlainSite
@@ -32,7 +32,7 @@ pub record HandsPart (ds : List Datagram) (before after : Option (List Datagram)
   pub counts : sent_after ≡ counted sent (length front)
 
 -- an entry was added to the log, and these datagrams were sent
-pub record Adds (l : Logged) (handed : List Datagram) (told told_after : Option (ℕ → ℕ)) (before after : Node) : Type 0 where
+pub record AddsEntry (l : Logged) (handed : List Datagram) (told told_after : Option (ℕ → ℕ)) (before after : Node) : Type 0 where
   pub log : after.log ≡ before.log ++ l ∷ []
   pub words : Took told l.words told_after
   pub sent : after.sent ≡ counted before.sent (length handed)
@@ -42,7 +42,7 @@ pub record Adds (l : Logged) (handed : List Datagram) (told told_after : Option 
 -- entries were added to the log, and these datagrams were sent
 pub record Grows (entries : List Logged) (handed : List Datagram) (told told_after : Option (ℕ → ℕ)) (before after : Node) : Type 0 where
   pub log : after.log ≡ before.log ++ entries
-  pub words : Took told (words_of entries) told_after
+  pub words : Took told (logged_words entries) told_after
   pub sent : after.sent ≡ counted before.sent (length handed)
   pub bounded : All IsBounded entries
   pub limit : after.router.table.limit ≡ before.router.table.limit

@@ -91,7 +91,7 @@ plain_of node.Tick = Tick
 plain_of (node.Arrive endpoint from multicast bytes) = Arrive (record { endpoint = endpoint; from = from; multicast = multicast }) bytes
 
 -- an entry of the log: an event happened to the router at a moment, and took these words and gave these datagrams
-pub record IsEntry (now : ℕ) (event : NodeEvent) (l : Logged) (before after : State) : Type 0 where
+pub record IsLoggedEvent (now : ℕ) (event : NodeEvent) (l : Logged) (before after : State) : Type 0 where
   pub moment_is : l.moment ≡ now
   pub event_is : l.event ≡ event
   pub done : Done
@@ -101,7 +101,7 @@ pub record IsEntry (now : ℕ) (event : NodeEvent) (l : Logged) (before after : 
 
 -- an event, and all that came of it is sent
 pub record Steps (at : PlainSite) (now : ℕ) (event : NodeEvent) (l : Logged) (before after : Serving) : Type 0 where
-  pub entry : IsEntry now event l before.router after.router
+  pub entry : IsLoggedEvent now event l before.router after.router
   pub sends : SendsAll (handed_of at l.sends) before.waiting after.waiting
 
 -- what was taken arrives, if something was
@@ -115,7 +115,7 @@ pub record BeginsTurn (at : PlainSite) (taken : Option NodeEvent) (before after 
   pub router : after.router ≡ before.router
 
 -- a turn, and its entries in the log
-pub record IsTurn (at : PlainSite) (now : ℕ) (entries : List Logged) (before after : Serving) : Type 0 where
+pub record IsLoggedTurn (at : PlainSite) (now : ℕ) (entries : List Logged) (before after : Serving) : Type 0 where
   pub taken : Option NodeEvent
   pub begun : Serving
   pub begins : BeginsTurn at taken before begun
@@ -127,11 +127,11 @@ pub record IsTurn (at : PlainSite) (now : ℕ) (entries : List Logged) (before a
   pub entries_are : entries ≡ first ++ tick ∷ []
 
 -- So many turns, the log of them, and the readings that the clock has left before and after. A turn reads the clock once.
-abbrev pub Turns : PlainSite → ℕ → List Logged → Serving → Serving → Option (List ℕ) → Option (List ℕ) → Type 0
-Turns at zero log before after readings rest = (log ≡ []) × (after ≡ before) × (rest ≡ readings)
-Turns at (suc n) log before after readings rest =
+abbrev pub AreTurns : PlainSite → ℕ → List Logged → Serving → Serving → Option (List ℕ) → Option (List ℕ) → Type 0
+AreTurns at zero log before after readings rest = (log ≡ []) × (after ≡ before) × (rest ≡ readings)
+AreTurns at (suc n) log before after readings rest =
     (between : Serving) × (past : List Logged) × (entries : List Logged) × (now : ℕ) × (left : Option (List ℕ))
-    × Turns at n past before between readings left × ReadsClock left now rest × IsTurn at now entries between after × (log ≡ past ++ entries)
+    × AreTurns at n past before between readings left × ReadsClock left now rest × IsLoggedTurn at now entries between after × (log ≡ past ++ entries)
 
 -- ---- a turn that the wire cut
 
@@ -144,7 +144,7 @@ pub record CutTaking (at : PlainSite) (entries : List Logged) (handed : List Dat
 
 -- an event of which only these datagrams were sent, a proper front
 pub record CutSteps (at : PlainSite) (now : ℕ) (event : NodeEvent) (l : Logged) (handed : List Datagram) (before after : Serving) : Type 0 where
-  pub entry : IsEntry now event l before.router after.router
+  pub entry : IsLoggedEvent now event l before.router after.router
   pub sends : SendsPart (handed_of at l.sends) handed before.waiting after.waiting
 
 -- while the answers to what was taken were sent
@@ -181,7 +181,7 @@ pub record CutTurns (at : PlainSite) (turns : ℕ) (log : List Logged) (handed :
   pub past : List Logged
   pub between : Serving
   pub left : Option (List ℕ)
-  pub whole : Turns at made past before between readings left
+  pub whole : AreTurns at made past before between readings left
   pub now : ℕ
   pub reads : ReadsClock left now rest
   pub entries : List Logged
@@ -231,7 +231,7 @@ pub record StarvesTurns (at : PlainSite) (turns : ℕ) (before : Serving) (waiti
   pub past : List Logged
   pub between : Serving
   pub left : Option (List ℕ)
-  pub whole : Turns at made past before between readings left
+  pub whole : AreTurns at made past before between readings left
   pub now : ℕ
   pub reads : ReadsClock left now rest
   pub starves : StarvesTurn at now between waiting
@@ -257,8 +257,8 @@ abbrev pub arrivals_in : List Logged → ℕ
 arrivals_in log = count_by is_arrival log
 
 -- the random words that a log took
-abbrev pub words_of : List Logged → List ℕ
-words_of log = flat_map (λ l. l.words) log
+abbrev pub logged_words : List Logged → List ℕ
+logged_words log = flat_map (λ l. l.words) log
 
 -- what arrives has at most 65,507 bytes
 abbrev pub IsShort : NodeEvent → Type 0

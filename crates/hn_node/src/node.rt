@@ -5,8 +5,8 @@ ghost use Rattle.hn_io.specs.Faults.{IsCaused};
 ghost use Rattle.hn_wire.specs.declared.datagram.Datagram.{Datagram};
 ghost use Rattle.hn_node.specs.declared.logged.Logged.{Logged};
 ghost use Rattle.hn_node.specs.declared.logged.NodeEvent.{NodeEvent};
-ghost use Rattle.hn_node.specs.Turns.{serving, handed_of, handed_in, Steps, CutSteps, Arrives, IsTurn, CutTurn, Turns, CutTurns, StarvesSteps, StarvesTurn, StarvesTurns, IsShort};
-ghost use Rattle.hn_node.specs.Steps.{plain_site, IsSite, Adds, Grows};
+ghost use Rattle.hn_node.specs.Turns.{serving, handed_of, handed_in, Steps, CutSteps, Arrives, IsLoggedTurn, CutTurn, AreTurns, CutTurns, StarvesSteps, StarvesTurn, StarvesTurns, IsShort};
+ghost use Rattle.hn_node.specs.Steps.{plain_site, IsSite, AddsEntry, Grows};
 
 use crate::logged;
 use crate::sending::{Site, hand_all};
@@ -42,10 +42,10 @@ impl Node {
         requires short { IsShort event }
         ensures ok { OnOk result ((l : Logged) × Steps (plain_site site.now) now event l
             (serving self.old.router (W.waiting wire.old)) (serving self.new.router (W.waiting wire.new))
-            × Adds l (handed_of (plain_site site.now) l.sends) (D.words draw.old) (D.words draw.new) self.old self.new) }
+            × AddsEntry l (handed_of (plain_site site.now) l.sends) (D.words draw.old) (D.words draw.new) self.old self.new) }
         ensures cut { result ≡ Err IoFault.Failed → (l : Logged) × (front : List Datagram) × CutSteps (plain_site site.now) now event l front
             (serving self.old.router (W.waiting wire.old)) (serving self.new.router (W.waiting wire.new))
-            × Adds l front (D.words draw.old) (D.words draw.new) self.old self.new }
+            × AddsEntry l front (D.words draw.old) (D.words draw.new) self.old self.new }
         ensures starved { result ≡ Err IoFault.NoMemory → StarvesSteps (plain_site site.now) now event
             (serving self.old.router (W.waiting wire.old)) (W.waiting wire.new) }
         ensures moment { OnOk result (self.new.router.moment ≡ now) }
@@ -91,7 +91,7 @@ impl Node {
         ensures cut { result ≡ Err IoFault.Failed → (event : NodeEvent) × (taken ≡ Some event)
             × ((l : Logged) × (front : List Datagram) × CutSteps (plain_site site.now) now event l front
             (serving self.old.router (W.waiting wire.old)) (serving self.new.router (W.waiting wire.new))
-            × Adds l front (D.words draw.old) (D.words draw.new) self.old self.new) }
+            × AddsEntry l front (D.words draw.old) (D.words draw.new) self.old self.new) }
         ensures starved { result ≡ Err IoFault.NoMemory → (event : NodeEvent) × (taken ≡ Some event)
             × StarvesSteps (plain_site site.now) now event (serving self.old.router (W.waiting wire.old)) (W.waiting wire.new) }
         ensures moment { OnOk result (self.new.router.moment ≤ now) }
@@ -117,7 +117,7 @@ impl Node {
         requires past { self.old.router.moment ≤ now }
         requires in_range { now ≤ 2 ^ 48 }
         requires site { IsSite (plain_site site.now) }
-        ensures ok { OnOk result ((entries : List Logged) × IsTurn (plain_site site.now) now entries
+        ensures ok { OnOk result ((entries : List Logged) × IsLoggedTurn (plain_site site.now) now entries
             (serving self.old.router (W.waiting wire.old)) (serving self.new.router (W.waiting wire.new))
             × Grows entries (handed_in (plain_site site.now) entries) (D.words draw.old) (D.words draw.new) self.old self.new) }
         ensures cut { result ≡ Err IoFault.Failed → (entries : List Logged) × (handed : List Datagram)
@@ -147,7 +147,7 @@ impl Node {
     ) -> Result<(), IoFault>
         requires past { self.old.router.moment ≤ C.last clock.old }
         requires site { IsSite (plain_site site.now) }
-        ensures ok { OnOk result ((log : List Logged) × Turns (plain_site site.now) turns log
+        ensures ok { OnOk result ((log : List Logged) × AreTurns (plain_site site.now) turns log
             (serving self.old.router (W.waiting wire.old)) (serving self.new.router (W.waiting wire.new))
             (C.readings clock.old) (C.readings clock.new)
             × Grows log (handed_in (plain_site site.now) log) (D.words draw.old) (D.words draw.new) self.old self.new) }

@@ -3,7 +3,7 @@ ghost use Rattle.hn_base.specs.Words.{Took};
 ghost use Rattle.hn_io.specs.Faults.{IsCaused};
 ghost use Rattle.hn_own.specs.Ports.{is_attached};
 ghost use Rattle.hn_wire.specs.declared.datagram.Datagram.{Datagram};
-ghost use Rattle.hn_node.specs.Turns.{serving, handed_in, Turns, CutTurns, StarvesTurns, arrivals_in, is_tick, words_of, IsBounded, HasFailed};
+ghost use Rattle.hn_node.specs.Turns.{serving, handed_in, AreTurns, CutTurns, StarvesTurns, arrivals_in, is_tick, logged_words, IsBounded, HasFailed};
 
 use crate::logged::Logged;
 use crate::node::Node;
@@ -64,7 +64,7 @@ pub fn serve<W: Wire, C: Clock, D: Draw>(
     requires peers { All (λ peer. peer ≤ 65534) peers.now }
     requires past { router.moment ≤ C.last clock.old }
     ensures turns { IfOk result (λ s. s.end ≡ ServeEnd.Turns
-        → Turns (record { port = port; peers = peers.now }) turns s.log
+        → AreTurns (record { port = port; peers = peers.now }) turns s.log
         (serving router (W.waiting wire.old)) (serving s.router (W.waiting wire.new)) (C.readings clock.old) (C.readings clock.new)
         × (s.sent ≡ min (length (handed_in (record { port = port; peers = peers.now }) s.log)) (2 ^ 64 - 1))) }
     ensures cut { IfOk result (λ s. s.end ≡ ServeEnd.WireFault → (handed : List Datagram)
@@ -75,7 +75,7 @@ pub fn serve<W: Wire, C: Clock, D: Draw>(
         (serving router (W.waiting wire.old)) (W.waiting wire.new) (C.readings clock.old) (C.readings clock.new)) }
     ensures taken { IfOk result (λ s. s.taken ≡ arrivals_in s.log) }
     ensures ticks { IfOk result (λ s. s.end ≡ ServeEnd.Turns → count_by is_tick s.log ≡ turns) }
-    ensures words { IfOk result (λ s. Took (D.words draw.old) (words_of s.log) (D.words draw.new)) }
+    ensures words { IfOk result (λ s. Took (D.words draw.old) (logged_words s.log) (D.words draw.new)) }
     ensures bounded { IfOk result (λ s. All IsBounded s.log) }
     ensures limit { IfOk result (λ s. s.router.table.limit ≡ router.table.limit) }
     ensures caused { IsCaused (HasFailed result) (W.faults wire.old) (W.faults wire.new)

@@ -5,8 +5,8 @@ pub use Rattle.hn_assign.specs.Pair.{assigned_pair, pair_cmp}
 pub use Rattle.hn_assign.specs.declared.assigned.Advertised.{Advertised}
 pub use Rattle.hn_assign.specs.declared.assigned.Assigned.{Assigned}
 pub use Rattle.hn_audit.specs.Reached.{IsReached}
-pub use Rattle.hn_audit.specs.Settled.{IsSettled}
-pub use Rattle.hn_audit.specs.Sound.{HasAssignment, Uses}
+pub use Rattle.hn_audit.specs.Settled.{IsSettledByRules}
+pub use Rattle.hn_audit.specs.Sound.{HasAssignment, UsesByRules}
 pub use Rattle.hn_base.proofs.AscendingLists.{Contains-cases, Contains-from_map, Contains-head, Contains-map, Contains-tail, nothing_in}
 pub use Rattle.hn_base.proofs.Elements.{all_of, from_filter_map}
 pub use Rattle.hn_base.proofs.Keys.{same_id, same_node}

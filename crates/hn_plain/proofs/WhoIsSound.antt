@@ -1,6 +1,6 @@
 -- The same settled routers are sound.
 use Rattle.hn_base.proofs.Names.{◌≡◌, ◌≢◌, ◌∙◌, ◌⊎◌, List, IsSome, inl, inr, refl, sym, subst, PlainPrefix, Overlaps}
-use Rattle.hn_plain.proofs.Names.{one_of_ascending, EpId, assigned_pair, pair_cmp, Assigned, IsReplayed, WorldIsSound, Member, Parts, IsReached, IsSettled, HasAssignment, Uses, SettledAlike}
+use Rattle.hn_plain.proofs.Names.{one_of_ascending, EpId, assigned_pair, pair_cmp, Assigned, IsReplayed, WorldIsSound, Member, Parts, IsReached, IsSettledByRules, HasAssignment, UsesByRules, SettledAlike}
 use Rattle.hn_plain.proofs.Names.{QuietAlike}
 use Rattle.hn_base.proofs.Keys.{id_is_found, found_is_id}
 use Rattle.hn_base.specs.declared.version.Version.{Version}
@@ -9,7 +9,7 @@ use Rattle.hn_world.specs.Replay.{Replays}
 use Rattle.hn_world.specs.Laws.{WorldHasItsTrace, WorldHasItsVersion}
 use Rattle.hn_world.specs.declared.event.Traced.{Traced}
 use Rattle.hn_audit.specs.Laws.{ElectAlike, ReplayedElectAlike, AlwaysSettledAreSound}
-use Rattle.hn_audit.specs.Sound.{Link, Joint, Private, IsPostOn, IsThere, IsServedLink, IsWithout, IsHeldOn, IsSound}
+use Rattle.hn_audit.specs.Sound.{Link, Joint, Private, IsPostOn, IsThereByRules, IsServedLink, IsWithout, IsHeldOn, IsSoundByRules}
 use Rattle.hn_plain.specs.Plain as plain
 use Rattle.hn_plain.specs.Same.{SoundAlike, AlwaysPlainlySound}
 use Rattle.hn_plain.proofs.PlainLaws.{PlainLaws}
@@ -27,8 +27,8 @@ from_on : (link : Link) (s : Member) (e : EpId) → IsPostOn link s e → plain.
 from_on (Joint place) s e on = (found_is_id (λ (p : Port). p.id) s.router.ports e on.0, on.1)
 from_on (Private router) s e on = on
 
-module _ (laws : PlainLaws) (routers : WorldIsSound) (w : Parts) (r : Member) (replayed : IsReplayed w) (settled : IsSettled w r) where
-  to_there : (link : Link) (s : Member) (e : EpId) → plain.IsThere w r link s e → IsThere w r link s e
+module _ (laws : PlainLaws) (routers : WorldIsSound) (w : Parts) (r : Member) (replayed : IsReplayed w) (settled : IsSettledByRules w r) where
+  to_there : (link : Link) (s : Member) (e : EpId) → plain.IsThere w r link s e → IsThereByRules w r link s e
   to_there link s e there = record {
     runs = there.0.runs;
     on_link = to_on link s e there.1;
@@ -36,7 +36,7 @@ module _ (laws : PlainLaws) (routers : WorldIsSound) (w : Parts) (r : Member) (r
   }
 
   -- who is on a link of a settled set is of the set
-  reached_there : (link : Link) (s : Member) (e : EpId) → IsThere w r link s e → IsReached w r s
+  reached_there : (link : Link) (s : Member) (e : EpId) → IsThereByRules w r link s e → IsReached w r s
   reached_there (Joint place) s e there =
       let set = there.of_set in
       settled.no_strangers s set.router e set.post there.runs set.reached (record { link = place; one = there.on_link.1; other = set.on_link.1 })
@@ -45,7 +45,7 @@ module _ (laws : PlainLaws) (routers : WorldIsSound) (w : Parts) (r : Member) (r
       let same : set.router ≡ s = set.on_link.0 ∙ sym there.on_link.0 in
       subst (IsReached w r) same set.reached
 
-  from_there : (link : Link) (s : Member) (e : EpId) → IsThere w r link s e → plain.IsThere w r link s e
+  from_there : (link : Link) (s : Member) (e : EpId) → IsThereByRules w r link s e → plain.IsThere w r link s e
   from_there link s e there = (reached_there link s e there, from_on link s e there.on_link)
 
   -- ---- assignments
@@ -117,7 +117,7 @@ module _ (laws : PlainLaws) (routers : WorldIsSound) (w : Parts) (r : Member) (r
 
   -- ---- sound
 
-  from_sound : IsSound w r → plain.IsSound w r
+  from_sound : IsSoundByRules w r → plain.IsSound w r
   from_sound is = record {
     inside = λ s c s_in held. let both = is.inside s c s_in held in ((uses_the_same laws r.router c.delegated).1 both.0, both.1);
     each_link = λ link t f d there uses.
@@ -133,7 +133,7 @@ module _ (laws : PlainLaws) (routers : WorldIsSound) (w : Parts) (r : Member) (r
   }
 
   module _ (is : plain.IsSound w r) where
-    each_link : (link : Link) (s : Member) (e : EpId) (d : PlainPrefix) → IsThere w r link s e → Uses r.router d → IsServedLink w r link d ⊎ IsWithout w r link d
+    each_link : (link : Link) (s : Member) (e : EpId) (d : PlainPrefix) → IsThereByRules w r link s e → UsesByRules r.router d → IsServedLink w r link d ⊎ IsWithout w r link d
     each_link link s e d there uses =
         elim (is.each_link link s e d (from_there link s e there) ((uses_the_same laws r.router d).1 uses)) [
           | inl served ↦ inl (to_served link d served)
@@ -147,7 +147,7 @@ module _ (laws : PlainLaws) (routers : WorldIsSound) (w : Parts) (r : Member) (r
         (is.links_apart link other one.router two.router one.assignment two.assignment (from_there link one.router one.assignment.endpoint one.there)
         (from_there other two.router two.assignment.endpoint two.there) one.held two.held differ))
 
-    to_sound : ElectAlike w r → IsSound w r
+    to_sound : ElectAlike w r → IsSoundByRules w r
     to_sound elects = record {
       inside = λ s c s_in held. let both = is.inside s c s_in held in ((uses_the_same laws r.router c.delegated).0 both.0, both.1);
       each_link = each_link;

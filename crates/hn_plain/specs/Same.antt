@@ -16,9 +16,9 @@ use Rattle.hn_world.specs.declared.member.Member.{Member}
 use Rattle.hn_world.specs.declared.parts.Parts.{Parts}
 use Rattle.hn_world.specs.Replay.{IsReplayed, Always}
 use Rattle.hn_audit.specs.Reached.{IsRunning}
-use Rattle.hn_audit.specs.Settled.{IsSettled}
-use Rattle.hn_audit.specs.Quiet.{IsRouterAtRest, IsQuiet}
-use Rattle.hn_audit.specs.Sound.{Uses, DoesNotWant, SeesNoFree, IsSound}
+use Rattle.hn_audit.specs.Settled.{IsSettledByRules}
+use Rattle.hn_audit.specs.Quiet.{IsRouterAtRest, IsQuietByRules}
+use Rattle.hn_audit.specs.Sound.{UsesByRules, DoesNotWantByRules, SeesNoFreeByRules, IsSoundByRules}
 use Rattle.hn_plain.specs.Plain as plain
 
 -- What node data say are their items, of each kind with a row of the table.
@@ -29,17 +29,17 @@ SaysItsItems =
 
 -- A router uses the same delegated prefixes, and wants the same of these.
 abbrev pub UsesTheSame : Type 0
-UsesTheSame = (s : State) (d : PlainPrefix) → plain.Uses s d ↔ Uses s d
+UsesTheSame = (s : State) (d : PlainPrefix) → plain.Uses s d ↔ UsesByRules s d
 
 abbrev pub WantsTheSame : Type 0
-WantsTheSame = (s : State) (d : PlainPrefix) → plain.DoesNotWant s d ↔ DoesNotWant s d
+WantsTheSame = (s : State) (d : PlainPrefix) → plain.DoesNotWant s d ↔ DoesNotWantByRules s d
 
 -- The same prefixes are advertised, and nothing is free in the same ones.
 abbrev pub AdvertisesTheSame : Type 0
 AdvertisesTheSame = (s : State) (a : Advertised) → plain.SeesAdvertised s a ↔ IsAdvertised (seen_by s) s.held.assigned a
 
 abbrev pub SeesTheSameFree : Type 0
-SeesTheSameFree = (s : State) (e : EpId) (d : PlainPrefix) → IsRouter s → plain.SeesNoFree s e d ↔ SeesNoFree s e d
+SeesTheSameFree = (s : State) (e : EpId) (d : PlainPrefix) → IsRouter s → plain.SeesNoFree s e d ↔ SeesNoFreeByRules s e d
 
 -- The same endpoints are on a Common Link of a router.
 abbrev pub LinksTheSame : Type 0
@@ -51,14 +51,14 @@ RestsAlike = (s : State) → IsRouter s → plain.Rests s ↔ IsRouterAtRest s
 
 -- In a replayed world the same running routers are settled, and the same are quiet.
 abbrev pub SettledAlike : Type 0
-SettledAlike = (w : Parts) (r : Member) → IsReplayed w → IsRunning w r → plain.IsSettled w r ↔ IsSettled w r
+SettledAlike = (w : Parts) (r : Member) → IsReplayed w → IsRunning w r → plain.IsSettled w r ↔ IsSettledByRules w r
 
 abbrev pub QuietAlike : Type 0
-QuietAlike = (w : Parts) (r : Member) → IsReplayed w → plain.IsQuiet w r ↔ IsQuiet w r
+QuietAlike = (w : Parts) (r : Member) → IsReplayed w → plain.IsQuiet w r ↔ IsQuietByRules w r
 
 -- A settled one is sound if and only if it is plainly so.
 abbrev pub SoundAlike : Type 0
-SoundAlike = (w : Parts) (r : Member) → IsReplayed w → IsRunning w r → IsSettled w r → plain.IsSound w r ↔ IsSound w r
+SoundAlike = (w : Parts) (r : Member) → IsReplayed w → IsRunning w r → IsSettledByRules w r → plain.IsSound w r ↔ IsSoundByRules w r
 
 -- At each moment of a replayed world's past each running router that is plainly settled and quiet is plainly sound.
 abbrev pub AlwaysPlainlySound : Type 0

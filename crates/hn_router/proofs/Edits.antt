@@ -2,7 +2,7 @@
 use Rattle.hn_base.proofs.Names.{◌≡◌, ◌≢◌, ◌∙◌, ◌<◌, ℕ, Bool, true, false, not, cond, List, [], ◌∷◌, map, filter, Option, ap, refl, sym, subst, arith, nat_eq, ◌==◌, ◌||◌, option_eq, or_parts}
 use Rattle.hn_base.proofs.Names.{eqb-false, ltb-true, not-false, cond_both, PlainPrefix}
 use Rattle.hn_router.proofs.Names.{length, nat_lt, Caps, EpId, Port, OwnAddress, is_attached, endpoints_of, Running, delegating, withdrawing, IsAttaching, detaching, setting_caps, setting_private}
-use Rattle.hn_router.proofs.Names.{setting_addresses, IsRestarting, words_of, PlainEvent, Attach, Restart, is_refused, IsEdit, endpoints_by}
+use Rattle.hn_router.proofs.Names.{setting_addresses, IsRestarting, words_taken, PlainEvent, Attach, Restart, is_refused, IsEdit, endpoints_by}
 use Rattle.hn_own.specs.Addresses.{may_address}
 use Rattle.hn_own.specs.OwnPrefixes.{may_delegate}
 use Rattle.hn_router.specs.Act.{Detach, External, Withdraw, SetCaps, Private, Addresses}
@@ -62,7 +62,7 @@ filter_parts p f (x ∷ xs) = by_test (p (f x)) (filter_parts p f xs)
 -- no word is taken, the moment stays, and the endpoints follow the event
 abbrev Leaves : PlainEvent → Running → Running → Type 0
 Leaves event r a =
-    (words_of a ≡ words_of r) × (a.state.moment ≡ r.state.moment) × (endpoints_of a.state.ports ≡ endpoints_by event (endpoints_of r.state.ports))
+    (words_taken a ≡ words_taken r) × (a.state.moment ≡ r.state.moment) × (endpoints_of a.state.ports ≡ endpoints_by event (endpoints_of r.state.ports))
 
 -- so it is where no endpoint is attached and the router does not restart
 abbrev pub IsPlainEdit : PlainEvent → Type 0
@@ -78,9 +78,9 @@ pub plain_edit : (event : PlainEvent) → IsPlainEdit event
 plain_edit (Attach at) = tt
 plain_edit Restart = tt
 plain_edit (Detach at) = λ r a is. (
-  ap words_of is,
+  ap words_taken is,
   ap (λ (x : Running). x.state.moment) is,
   ap (λ (x : Running). endpoints_of x.state.ports) is ∙ filter_parts (λ (e : EpId). not (e.0 == at.0)) (λ (p : Port). p.id) r.state.ports,
 )
 plain_edit (Private private) = λ r a is. subst (Leaves (Private private) r) (sym is) (private_leaves private r)
-plain_edit _ = λ r a is. (ap words_of is, ap (λ (x : Running). x.state.moment) is, ap (λ (x : Running). endpoints_of x.state.ports) is)
+plain_edit _ = λ r a is. (ap words_taken is, ap (λ (x : Running). x.state.moment) is, ap (λ (x : Running). endpoints_of x.state.ports) is)

@@ -47,7 +47,7 @@ pub use Rattle.hn_rules.specs.Laws.{AttachingKeeps, KeepsWell, RouterStaysLater}
 pub use Rattle.hn_rules.specs.Passing.{after_passing}
 pub use Rattle.hn_rules.specs.Refresh.{IsRefresh, network_state_hash}
 pub use Rattle.hn_rules.specs.Router.{IsRouter, IsWell}
-pub use Rattle.hn_rules.specs.Rules.{IsSole, Rule, begun_at, noted, words_of}
+pub use Rattle.hn_rules.specs.Rules.{IsSole, Rule, begun_at, noted, words_taken}
 pub use Rattle.hn_rules.specs.Seen.{IsElectedAt, seen_by}
 pub use Rattle.hn_rules.specs.Still.{at_moment}
 pub use Rattle.hn_rules.specs.Tick.{IsExpiry, IsPortsTick, forgetting}

@@ -21,7 +21,7 @@ use Rattle.hn_own.specs.Addresses.{AreAddresses}
 use Rattle.hn_own.specs.Ports.{ArePorts}
 use Rattle.hn_own.specs.Ranges.{IsRangedPeer}
 use Rattle.hn_rules.specs.Nodes.{held_entry, own_entry, nodes_of}
-use Rattle.hn_rules.specs.Router.{IsPortPast, IsNodePast, EndsSoon, WasReach}
+use Rattle.hn_rules.specs.Router.{IsPortPast, IsNodePast, EndsInRange, WasReach}
 use Rattle.hn_router.specs.Laws.{NewIsRouter}
 use Rattle.hn_base.proofs.AscendingLists.{Contains-one}
 
@@ -91,7 +91,7 @@ new_is_one none no_endpoints no_delegated no_address own_is_reachable reachable_
       private = subst IsPrivateLength (sym new.no_private) tt;
       near = record {
         backoffs = subst (λ (pairs : Held). All (IsSoonDue s.moment) pairs.backoffs) (sym new.nothing_held) (All-nil (IsSoonDue s.moment));
-        ends = subst (All (EndsSoon s.moment)) (sym new.no_prefixes) (All-nil (EndsSoon s.moment));
+        ends = subst (All (EndsInRange s.moment)) (sym new.no_prefixes) (All-nil (EndsInRange s.moment));
       };
     }
 

@@ -1,6 +1,6 @@
 -- Each event has a result over each stream of words: it cannot be that there is none.
 use Rattle.hn_base.proofs.Names.{◌≡◌, ◌^◌, ℕ, false, List, [], ◌∷◌, refl, inl, inr, arith, All, All-nil, All-cons, IsLinkLocal, IsByte, Some!, Then, Begins}
-use Rattle.hn_router.proofs.Names.{IsTrue, EpId, some_then, some_by, PlainTlv, IsTlvList, Origin, Running, IsAttaching, IsRestarting, IsRefresh, IsWell, begun_at, noted, words_of, IsTick, PlainEvent}
+use Rattle.hn_router.proofs.Names.{IsTrue, EpId, some_then, some_by, PlainTlv, IsTlvList, Origin, Running, IsAttaching, IsRestarting, IsRefresh, IsWell, begun_at, noted, words_taken, IsTick, PlainEvent}
 use Rattle.hn_router.proofs.Names.{Arrive, Tick, Attach, Restart, is_refused, IsEventInRange, IsEdit, IsEventRule, IsEvent, DidNothing, IsDueAfter}
 use Rattle.hn_base.proofs.NextDue.{some_sooner}
 use Rattle.hn_base.proofs.SomeResult.{total_given, total_plain, total_by, total_both, total_test}
@@ -40,7 +40,7 @@ all_tlvs [] bytes list = All-nil IsTlv
 all_tlvs (tlv ∷ tlvs) bytes list = All-cons IsTlv tlv tlvs list.1 (all_tlvs tlvs list.0 list.3)
 
 abbrev HasArrived : Origin → List ℕ → (ℕ → ℕ) → Running → Type 0
-HasArrived from bytes stream r = Some! (λ (a : Running). IsEventRule (Arrive from bytes) r a × Begins (words_of a) stream)
+HasArrived from bytes stream r = Some! (λ (a : Running). IsEventRule (Arrive from bytes) r a × Begins (words_taken a) stream)
 
 total_arrive : SomeEventLaws → (from : Origin) (bytes : List ℕ) → All IsByte bytes → IsTotal Well (IsEventRule (Arrive from bytes))
 total_arrive laws from bytes are stream r is begins = some_by (IsLinkLocal from.from.ip) near far
@@ -61,24 +61,24 @@ module _ (laws : SomeEventLaws) where
   total_edit : (event : PlainEvent) → IsTotal Well (IsEdit event)
   total_edit (Attach at) = laws.attaching at
   total_edit Restart = laws.restarting
-  total_edit event = total_given words_of Well (IsEdit event) (λ r a h. (plain_edit event r a h).0) (λ r is none. none _ refl)
+  total_edit event = total_given words_taken Well (IsEdit event) (λ r a h. (plain_edit event r a h).0) (λ r is none. none _ refl)
 
   -- the edit of an event, and then a refresh
   total_then : (event : PlainEvent) → IsEventInRange event → IsTotal (IsTaken event) (Then (IsEdit event) IsRefresh)
   total_then event fits =
-      total_both words_of (IsTaken event) Well (IsEdit event) IsRefresh (total_by words_of (IsTaken event) Well (IsEdit event) (λ r is. is.0) (total_edit event))
+      total_both words_taken (IsTaken event) Well (IsEdit event) IsRefresh (total_by words_taken (IsTaken event) Well (IsEdit event) (λ r is. is.0) (total_edit event))
       (λ r a is holds. keeps_edit laws.stays event r a fits is.1 holds is.0) laws.refresh
 
   total_rule : (event : PlainEvent) → IsEventInRange event → IsOfBytes event → IsTotal (IsTaken event) (IsEventRule event)
   total_rule (Arrive from bytes) fits are =
-      total_by words_of (IsTaken (Arrive from bytes)) Well (IsEventRule (Arrive from bytes)) (λ r is. is.0) (total_arrive laws from bytes are)
-  total_rule Tick fits are = total_by words_of (IsTaken Tick) Well IsTick (λ r is. is.0) laws.tick
+      total_by words_taken (IsTaken (Arrive from bytes)) Well (IsEventRule (Arrive from bytes)) (λ r is. is.0) (total_arrive laws from bytes are)
+  total_rule Tick fits are = total_by words_taken (IsTaken Tick) Well IsTick (λ r is. is.0) laws.tick
   total_rule event fits are = total_then event fits
 
   total_event : (event : PlainEvent) → IsEventInRange event → IsOfBytes event → IsTotal Well (IsEvent event)
   total_event event fits are =
-      total_test words_of Well (λ r. is_refused event r.state) (λ r a. a ≡ noted note.Refused r) (IsEventRule event)
-      (total_plain words_of (λ r. Well r × IsTrue (is_refused event r.state)) (noted note.Refused) (λ r. refl)) (total_rule event fits are)
+      total_test words_taken Well (λ r. is_refused event r.state) (λ r a. a ≡ noted note.Refused r) (IsEventRule event)
+      (total_plain words_taken (λ r. Well r × IsTrue (is_refused event r.state)) (noted note.Refused) (λ r. refl)) (total_rule event fits are)
 
   -- ---- the moment that is kept, and an event that happens
 

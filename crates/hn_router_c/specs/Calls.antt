@@ -69,7 +69,7 @@ IsUnsent sends place sent count room =
     ⊎ ((outgoing : Outgoing) × (slice_get sends place ≡ Some outgoing) × (sent ≡ sent_of outgoing) × ExceedsRoom outgoing.bytes count room)
 
 -- what was noted at a place
-pub record IsNoted (notes : List noted.Note) (place : ℕ) (out : Note) : Type 0 where
+pub record IsNoteAt (notes : List noted.Note) (place : ℕ) (out : Note) : Type 0 where
   pub note : noted.Note
   pub at : slice_get notes place ≡ Some note
   pub is : out ≡ note_of note

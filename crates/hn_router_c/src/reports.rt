@@ -1,5 +1,5 @@
 ghost use Rattle.std.specs.Prelude.{◌≡◌, ◌≢◌, ◌↔◌, ◌<◌, ◌≤◌, ◌⊎◌, None, IfSome, IfNone, IsNone, IsTrue, false, length};
-ghost use Rattle.hn_router_c.specs.Calls.{has_link, ExceedsRoom, IsWritten, IsSent, IsUnsent, IsNoted, IsAssignedAt, IsNodeAt, IsUsedAt, UsesFewer, IsElectedFor, IsAdvertisementWritten, IsUnadvertised, Advertises, HasNoRoomFor, Advertised};
+ghost use Rattle.hn_router_c.specs.Calls.{has_link, ExceedsRoom, IsWritten, IsSent, IsUnsent, IsNoteAt, IsAssignedAt, IsNodeAt, IsUsedAt, UsesFewer, IsElectedFor, IsAdvertisementWritten, IsUnadvertised, Advertises, HasNoRoomFor, Advertised};
 ghost use Rattle.hn_router_c.specs.Kinds.{letter_of};
 
 use crate::happening::{DONE, NO_MEMORY, OUT_OF_RANGE};
@@ -50,7 +50,7 @@ fn send(sends: &[Outgoing], place: usize, sent: &mut Sent, count: &mut usize, ro
 
 /// What was noted at a place.
 fn noted(notes: &[hn_rules::Note], place: usize, out: &mut Note) -> u8
-    ensures noted { result ≡ 0 → IsNoted notes.now place out.new }
+    ensures noted { result ≡ 0 → IsNoteAt notes.now place out.new }
     ensures there { result ≡ 0 ↔ place < length notes.now }
     ensures as_before { result ≢ 0 → out.new ≡ out.old }
     ensures status { (result ≡ 0) ⊎ (result ≡ 2) }
@@ -190,7 +190,7 @@ pub extern "C" fn hn_router_note(
     note: &mut Note,
 ) -> u8
     ensures kept { router.new.held ≡ router.old.held }
-    ensures noted { result ≡ 0 → IfSome router.old.held (λ kept. IsNoted kept.done.notes place note.new) }
+    ensures noted { result ≡ 0 → IfSome router.old.held (λ kept. IsNoteAt kept.done.notes place note.new) }
     ensures there { IfSome router.old.held (λ kept. result ≡ 0 ↔ place < length kept.done.notes) }
     ensures none { IfNone router.old.held (result ≡ 2) }
     ensures as_before { result ≢ 0 → note.new ≡ note.old }

@@ -1,7 +1,7 @@
 -- What an arrival runs, and the words that it takes.
 use Rattle.hn_base.proofs.Names.{◌≡◌, ◌≤◌, ◌∙◌, ℕ, Bool, true, false, cond, List, [], ◌∷◌, ◌++◌, length, take, Option, Some, None, ap, refl, subst, sym, ◌==◌, cond_both, Drew, Then}
 use Rattle.hn_rules.proofs.Names.{is_some, NodeId, EpId, Port, Greet, Known, Added, Full, Unknown, greeting, may_ask, asked, PlainTlv, IsTlvList, IsTlvAt, PlainItem, port_at, Subject, Running, Origin}
-use Rattle.hn_rules.proofs.Names.{with_answer, state_item, with_some_answer, with_state, IsNetworkRequest, IsFirstFreeId, IsSecondClaim, AtPort, Ran, noted, with_port, with_words, words_of, met}
+use Rattle.hn_rules.proofs.Names.{with_answer, state_item, with_some_answer, with_state, IsNetworkRequest, IsFirstFreeId, IsSecondClaim, AtPort, Ran, noted, with_port, with_words, words_taken, met}
 use Rattle.hn_rules.proofs.Names.{greeting_port, named, node_endpoint, Publishes, IsRefresh, IsTlvRule, IsTlvs, IsAnswering, IsArrival, ran_plain, ran_both, each_words, on_some_words}
 use Rattle.hn_rules.specs.declared.answers.Subject.TheVariants as subject
 use Rattle.hn_typed.specs.Item as item
@@ -15,8 +15,8 @@ some_answer_words about (Some item) r = refl
 -- a request for the network state takes no word
 pub ran_network_request : (told : Option (ℕ → ℕ)) (before after : Running) → IsNetworkRequest before after → Ran IsNetworkRequest told told before after
 ran_network_request told before after holds =
-    ran_plain words_of IsNetworkRequest told before after holds
-    (each_words words_of (λ id b a. a ≡ with_state id b) before.state.reach (with_answer subject.NetworkState (item.NetworkState before.state.net []) before) after
+    ran_plain words_taken IsNetworkRequest told before after holds
+    (each_words words_taken (λ id b a. a ≡ with_state id b) before.state.reach (with_answer subject.NetworkState (item.NetworkState before.state.net []) before) after
     (λ id b a is. ap (λ (r : Running). r.done.words) is ∙ some_answer_words (subject.NodeState id) (state_item false b.state id) b) holds)
 
 -- a Node Endpoint takes no word
@@ -46,8 +46,8 @@ pub ran_node_endpoint : (from : Origin) (node : NodeId) (endpoint : EpId) (told 
     → AtPort from.endpoint (λ port b a. a ≡ node_endpoint from node endpoint port b) before after
     → Ran (AtPort from.endpoint (λ port b a. a ≡ node_endpoint from node endpoint port b)) told told before after
 ran_node_endpoint from node endpoint told before after holds =
-    ran_plain words_of (AtPort from.endpoint (λ port b a. a ≡ node_endpoint from node endpoint port b)) told before after holds
-    (on_some_words words_of (λ port b a. a ≡ node_endpoint from node endpoint port b) (port_at from.endpoint before.state.ports) before after
+    ran_plain words_taken (AtPort from.endpoint (λ port b a. a ≡ node_endpoint from node endpoint port b)) told before after holds
+    (on_some_words words_taken (λ port b a. a ≡ node_endpoint from node endpoint port b) (port_at from.endpoint before.state.ports) before after
     (λ port b a is. ap (λ (r : Running). r.done.words) is ∙ node_endpoint_words from node endpoint port b) holds)
 
 -- the second claim takes one word
@@ -81,12 +81,12 @@ read_more from bytes place next tlv told told_between told_after before between 
   within = here.within;
   seen = read.seen ++ tlv ∷ [];
   list = grows read.seen read.list;
-  ran = ran_more words_of (λ tlv. Then (IsTlvRule from tlv) IsRefresh) read.seen tlv told told_between told_after before between after read.ran ran;
+  ran = ran_more words_taken (λ tlv. Then (IsTlvRule from tlv) IsRefresh) read.seen tlv told told_between told_after before between after read.ran ran;
 }
 
 -- the TLVs of a datagram, and then the answers, which take no word
 pub ran_arrival : (from : Origin) (tlvs : List PlainTlv) (told told_after : Option (ℕ → ℕ)) (before read after : Running)
     → Ran (IsTlvs from tlvs) told told_after before read → IsAnswering from read after → Ran (IsArrival from tlvs) told told_after before after
 ran_arrival from tlvs told told_after before read after ran answering =
-    ran_both words_of (IsTlvs from tlvs) (IsAnswering from) told told_after told_after before read after ran
-    (ran_plain words_of (IsAnswering from) told_after read after answering (ap (λ (r : Running). r.done.words) answering.gives))
+    ran_both words_taken (IsTlvs from tlvs) (IsAnswering from) told told_after told_after before read after ran
+    (ran_plain words_taken (IsAnswering from) told_after read after answering (ap (λ (r : Running). r.done.words) answering.gives))

@@ -2,7 +2,7 @@
 use Rattle.hn_base.proofs.Names.{◌≡◌, ◌∙◌, ℕ, List, [], ◌∷◌, ◌++◌, Some, map, Contains, ap, refl, sym, subst, nat_cmp, IsStrictlySortedBy, Some!, node_cmp, Then, Each}
 use Rattle.hn_rules.proofs.Names.{◌≢◌, ◌↔◌, NodeId, EpId, Contains-map, Contains-from_map, sorted_parts, some_then, some_is, ids_of, Entry, interval_from, Port, IsReachable, loss_marked, IsTable}
 use Rattle.hn_rules.proofs.Names.{endpoints_of, port_at, Running, State, PlainData, ChangesKeepWell, nodes_of, IsReach, own_items, Publishes, IsPublished, next_number, IsPublishing, IsReaching}
-use Rattle.hn_rules.proofs.Names.{IsPortReset, IsReset, IsHashing, IsRefresh, network_state_hash, IsWell, Rule, AtPort, with_port, with_words, words_of}
+use Rattle.hn_rules.proofs.Names.{IsPortReset, IsReset, IsHashing, IsRefresh, network_state_hash, IsWell, Rule, AtPort, with_port, with_words, words_taken}
 use Rattle.hn_base.proofs.ExactRules.{exact_given, exact_plain, exact_by, exact_both, exact_each, exact_start, exact_after, exact_on, exact_cases}
 use Rattle.hn_base.proofs.OneResult.{sole_word}
 use Rattle.hn_base.proofs.SomeExists.{some_part}
@@ -38,26 +38,26 @@ Any r = Unit {0}
 -- the rule of an endpoint
 pub exact_at : (P : Running → Type 0) (at : EpId) (rule : Port → Rule) → ((port : Port) → IsExactRule P (rule port)) → IsExactRule P (AtPort at rule)
 exact_at P at rule all =
-    exact_on words_of P (λ r. port_at at r.state.ports) rule
-    (λ port. exact_by words_of (λ r. P r × (port_at at r.state.ports ≡ Some port)) P (rule port) (λ r p. p.0) (all port))
+    exact_on words_taken P (λ r. port_at at r.state.ports) rule
+    (λ port. exact_by words_taken (λ r. P r × (port_at at r.state.ports ≡ Some port)) P (rule port) (λ r p. p.0) (all port))
 
 -- and of each of some
 pub exact_ports : (rule : Port → Rule) → ((port : Port) → IsExactRule Any (rule port)) → (ats : List EpId) → IsExactRule Any (Each (λ at. AtPort at rule) ats)
 exact_ports rule all ats =
-    exact_each words_of Any (λ at. AtPort at rule) ats (λ at. (exact_at Any at rule all).sole) (λ at there b a p is. tt) (λ at there. (exact_at Any at rule all).total)
+    exact_each words_taken Any (λ at. AtPort at rule) ats (λ at. (exact_at Any at rule all).sole) (λ at there b a p is. tt) (λ at there. (exact_at Any at rule all).total)
 
 -- of each that is attached where it begins
 pub exact_attached : (rule : Port → Rule) → ((port : Port) → IsExactRule Any (rule port)) → IsExactRule Any (λ r a. Each (λ at. AtPort at rule) (endpoints_of r.state.ports) r a)
 exact_attached rule all =
-    exact_start words_of Any (λ s. Each (λ at. AtPort at rule) (endpoints_of s.state.ports)) (λ s. (exact_ports rule all (endpoints_of s.state.ports)).sole)
+    exact_start words_taken Any (λ s. Each (λ at. AtPort at rule) (endpoints_of s.state.ports)) (λ s. (exact_ports rule all (endpoints_of s.state.ports)).sole)
     (λ s p. (exact_ports rule all (endpoints_of s.state.ports)).total)
 
 -- what takes the next word
-pub exact_taking : (P : Running → Type 0) (rule : ℕ → Running → Running) → ((word : ℕ) (r : Running) → words_of (rule word r) ≡ words_of r ++ word ∷ [])
+pub exact_taking : (P : Running → Type 0) (rule : ℕ → Running → Running) → ((word : ℕ) (r : Running) → words_taken (rule word r) ≡ words_taken r ++ word ∷ [])
     → IsExactRule P (λ r a. (word : ℕ) × (a ≡ rule word r))
 exact_taking P rule takes = record {
-  sole = sole_word words_of rule takes;
-  total = total_word words_of P (λ word r a. a ≡ rule word r) (λ word r a is. ap words_of is ∙ takes word r) (λ word r p. some_is (λ (a : Running). a ≡ rule word r) (rule word r) refl);
+  sole = sole_word words_taken rule takes;
+  total = total_word words_taken P (λ word r a. a ≡ rule word r) (λ word r a is. ap words_taken is ∙ takes word r) (λ word r p. some_is (λ (a : Running). a ≡ rule word r) (rule word r) refl);
 }
 
 -- ---- own node data
@@ -98,15 +98,15 @@ pub published_words : (number : ℕ) (r a : Running) → Publishes number r a �
 published_words number r a h = ap (λ (x : Running). x.done.words) h.gives
 
 pub exact_publishes : RefreshLaws → (number : ℕ) → IsExactRule CanPublish (Publishes number)
-exact_publishes laws number = exact_given words_of CanPublish (Publishes number) (published_words number) (one_published laws number) (some_published laws number)
+exact_publishes laws number = exact_given words_taken CanPublish (Publishes number) (published_words number) (one_published laws number) (some_published laws number)
 
 exact_publishing : RefreshLaws → IsExactRule CanPublish IsPublishing
 exact_publishing laws =
     let Due : Running → Type 0 = λ r. CanPublish r × ¬ (IsPublished r.state) in
-    exact_cases words_of CanPublish (λ r. IsPublished r.state) (λ r a. a ≡ r) (λ r a. Publishes (next_number r.state.number) r a)
-    (exact_plain words_of (λ r. CanPublish r × IsPublished r.state) (λ r. r) (λ r. refl))
-    (exact_start words_of Due (λ s. Publishes (next_number s.state.number)) (λ s. (exact_publishes laws (next_number s.state.number)).sole)
-    (λ s due. (exact_by words_of Due CanPublish (Publishes (next_number s.state.number)) (λ r p. p.0) (exact_publishes laws (next_number s.state.number))).total))
+    exact_cases words_taken CanPublish (λ r. IsPublished r.state) (λ r a. a ≡ r) (λ r a. Publishes (next_number r.state.number) r a)
+    (exact_plain words_taken (λ r. CanPublish r × IsPublished r.state) (λ r. r) (λ r. refl))
+    (exact_start words_taken Due (λ s. Publishes (next_number s.state.number)) (λ s. (exact_publishes laws (next_number s.state.number)).sole)
+    (λ s due. (exact_by words_taken Due CanPublish (Publishes (next_number s.state.number)) (λ r p. p.0) (exact_publishes laws (next_number s.state.number))).total))
 
 -- ---- reachability
 
@@ -143,7 +143,7 @@ one_reach laws s xs ys a b = laws.one_order xs ys a.ascending b.ascending (λ id
 exact_reaching : RefreshLaws → IsExactRule Well IsReaching
 unfolding reaching
 exact_reaching laws =
-    exact_given words_of Well IsReaching (λ r a h. ap words_of h.gives)
+    exact_given words_taken Well IsReaching (λ r a h. ap words_taken h.gives)
     (λ r a b h k. h.gives ∙ ap (λ (reach : List NodeId). reaching reach r) (one_reach laws r.state h.reach k.reach h.is_reach k.is_reach) ∙ sym k.gives)
     (λ r is. some_then (some_reach laws.node r.state is.table) (λ reach is_reach none. none (reaching reach r) (record { reach = reach; is_reach = is_reach; gives = refl })))
 
@@ -152,22 +152,22 @@ exact_reaching laws =
 exact_port_reset : (port : Port) → IsExactRule Any (IsPortReset port)
 exact_port_reset port =
     let reset : ℕ → Running → Running = λ word r. with_words (word ∷ []) (with_port (record port { trickle = interval_from r.state.moment 200 word }) r) in
-    exact_cases words_of Any (λ r. port.trickle.len ≡ 200) (λ r a. a ≡ r) (λ r a. (word : ℕ) × (a ≡ reset word r))
-    (exact_plain words_of (λ r. Any r × (port.trickle.len ≡ 200)) (λ r. r) (λ r. refl))
+    exact_cases words_taken Any (λ r. port.trickle.len ≡ 200) (λ r a. a ≡ r) (λ r a. (word : ℕ) × (a ≡ reset word r))
+    (exact_plain words_taken (λ r. Any r × (port.trickle.len ≡ 200)) (λ r. r) (λ r. refl))
     (exact_taking (λ r. Any r × (port.trickle.len ≢ 200)) reset (λ word r. refl))
 
 exact_hashing : IsExactRule Any IsHashing
 exact_hashing =
     let hashed : Running → Running = λ r. record r { state = record r.state { net = network_state_hash r.state } } in
-    exact_cases words_of Any (λ r. network_state_hash r.state ≡ r.state.net) (λ r a. a ≡ r) (λ r a. IsReset (hashed r) a)
-    (exact_plain words_of (λ r. Any r × (network_state_hash r.state ≡ r.state.net)) (λ r. r) (λ r. refl))
-    (exact_after words_of (λ r. Any r × (network_state_hash r.state ≢ r.state.net)) Any hashed IsReset (λ r. refl) (λ r p. tt) (exact_attached IsPortReset exact_port_reset))
+    exact_cases words_taken Any (λ r. network_state_hash r.state ≡ r.state.net) (λ r a. a ≡ r) (λ r a. IsReset (hashed r) a)
+    (exact_plain words_taken (λ r. Any r × (network_state_hash r.state ≡ r.state.net)) (λ r. r) (λ r. refl))
+    (exact_after words_taken (λ r. Any r × (network_state_hash r.state ≢ r.state.net)) Any hashed IsReset (λ r. refl) (λ r p. tt) (exact_attached IsPortReset exact_port_reset))
 
 -- ---- a refresh
 
 pub exact_refresh : RefreshLaws → IsExactRule Well IsRefresh
 exact_refresh laws =
-    exact_both words_of Well Well IsPublishing (Then IsReaching IsHashing)
-    (exact_by words_of Well CanPublish IsPublishing (can_publish laws) (exact_publishing laws))
+    exact_both words_taken Well Well IsPublishing (Then IsReaching IsHashing)
+    (exact_by words_taken Well CanPublish IsPublishing (can_publish laws) (exact_publishing laws))
     (λ r a is holds. publishing [] Well (laws.keeps []) r a holds is)
-    (exact_both words_of Well Any IsReaching IsHashing (exact_reaching laws) (λ r a is holds. tt) exact_hashing)
+    (exact_both words_taken Well Any IsReaching IsHashing (exact_reaching laws) (λ r a is holds. tt) exact_hashing)

@@ -2,7 +2,7 @@
 use Rattle.hn_base.proofs.Names.{◌≡◌, ◌∙◌, ◌+◌, ℕ, false, List, [], ◌∷◌, ◌++◌, None, IsTrue, length, map, ap, refl, inl, inr, sym, subst, Some!, Then, Each, IsTotalOrder, on, on_total, Begins}
 use Rattle.hn_rules.proofs.Names.{EpId, some_is, some_then, spelling, tlv_of, Port, PackingExists, Delegated, Wish, pair_cmp, wish_pair, IsSubroutine, Neighbour, attached_port, ticked, tick_words, tick_sends}
 use Rattle.hn_rules.proofs.Names.{endpoints_of, attached, Running, State, IsAssigning, AreAsked, IsRunAssigned, seen_by, ending, IsAttaching, IsPortRestart, emptied, IsRestarting, KeepsRouter}
-use Rattle.hn_rules.proofs.Names.{RefreshMakesRouter, Publishes, IsRefresh, IsRouter, Rule, AtPort, with_port, with_words, words_of, IsExpired, Without, IsPortExpiry, IsExpiry}
+use Rattle.hn_rules.proofs.Names.{RefreshMakesRouter, Publishes, IsRefresh, IsRouter, Rule, AtPort, with_port, with_words, words_taken, IsExpired, Without, IsPortExpiry, IsExpiry}
 use Rattle.hn_rules.proofs.Names.{IsStateSending, IsPortMoving, IsPortSending, IsPortTick, IsPortsTick, forgetting, IsLosing, IsSettling, IsTick, IsSole}
 use Rattle.hn_base.proofs.AscendingLists.{ascending_unique}
 use Rattle.hn_base.proofs.ExactRules.{exact_given, exact_plain, exact_by, exact_like, exact_both, exact_start, exact_after, exact_test}
@@ -36,7 +36,7 @@ some_without P (x ∷ xs) =
 
 exact_port_expiry : (port : Port) → IsExactRule Any (IsPortExpiry port)
 exact_port_expiry port =
-    exact_given words_of Any (IsPortExpiry port) (λ r a h. ap words_of h.gives)
+    exact_given words_taken Any (IsPortExpiry port) (λ r a h. ap words_taken h.gives)
     (λ r a b h k. h.gives ∙ ap (λ (peers : List Neighbour). with_port (record port { peers = peers }) r) (one_without (IsExpired r.state) port.peers h.peers k.peers h.without k.without) ∙ sym k.gives)
     (λ r p. some_then (some_without (IsExpired r.state) port.peers) (λ peers without none.
     none (with_port (record port { peers = peers }) r) (record { peers = peers; without = without; gives = refl })))
@@ -58,10 +58,10 @@ IsMovedBy port words before after =
 
 exact_port_moving : (port : Port) → IsExactRule Any (IsPortMoving port)
 exact_port_moving port = record {
-  sole = sole_drawn words_of (IsPortMoving port) (λ r a h. h.words) (λ r a h. ap words_of h.gives) (λ r a b h k. h.as_many ∙ sym k.as_many)
+  sole = sole_drawn words_taken (IsPortMoving port) (λ r a h. h.words) (λ r a h. ap words_taken h.gives) (λ r a b h k. h.as_many ∙ sym k.as_many)
       (λ r a b h k same. h.gives ∙ ap (λ (words : List ℕ). with_words words (with_port (ticked r.state.moment words port) r)) same ∙ sym k.gives);
-  total = total_from words_of Any (λ r a. (words : List ℕ) × (IsMovedBy port words r a)) (IsPortMoving port) (λ r a p h. record { words = h.0; as_many = h.1.0; gives = h.1.1 })
-      (total_drawn words_of Any (λ r. tick_words r.state.moment port) (IsMovedBy port) (λ words r a h. ap words_of h.1)
+  total = total_from words_taken Any (λ r a. (words : List ℕ) × (IsMovedBy port words r a)) (IsPortMoving port) (λ r a p h. record { words = h.0; as_many = h.1.0; gives = h.1.1 })
+      (total_drawn words_taken Any (λ r. tick_words r.state.moment port) (IsMovedBy port) (λ words r a h. ap words_taken h.1)
       (λ words r p as_many none. none (with_words words (with_port (ticked r.state.moment words port) r)) (as_many, refl)));
 }
 
@@ -72,7 +72,7 @@ module _ (laws : SendingLaws) where
   exact_state_sending : (at : EpId) → IsExactRule Any (IsStateSending at)
   unfolding sending
   exact_state_sending at =
-      exact_given words_of Any (IsStateSending at) (λ r a h. ap words_of h.gives)
+      exact_given words_taken Any (IsStateSending at) (λ r a h. ap words_taken h.gives)
       (λ r a b h k. h.gives ∙ ap (λ (datagrams : List (List ℕ)). sending at datagrams r)
       (laws.one_packing r.state.id at (spelling (tlv_of (item.NetworkState r.state.net [])) ∷ []) h.datagrams k.datagrams h.packed k.packed) ∙ sym k.gives)
       (λ r p none. let (datagrams, packed) = laws.packing r.state.id at (spelling (tlv_of (item.NetworkState r.state.net [])) ∷ []) in
@@ -80,13 +80,13 @@ module _ (laws : SendingLaws) where
 
   exact_port_sending : (port : Port) → IsExactRule Any (IsPortSending port)
   exact_port_sending port =
-      exact_test words_of Any (λ r. tick_sends r.state.moment port) (IsStateSending port.id) (λ r a. a ≡ r)
-      (exact_by words_of (λ r. Any r × IsTrue (tick_sends r.state.moment port)) Any (IsStateSending port.id) (λ r p. tt) (exact_state_sending port.id))
-      (exact_plain words_of (λ r. Any r × (tick_sends r.state.moment port ≡ false)) (λ r. r) (λ r. refl))
+      exact_test words_taken Any (λ r. tick_sends r.state.moment port) (IsStateSending port.id) (λ r a. a ≡ r)
+      (exact_by words_taken (λ r. Any r × IsTrue (tick_sends r.state.moment port)) Any (IsStateSending port.id) (λ r p. tt) (exact_state_sending port.id))
+      (exact_plain words_taken (λ r. Any r × (tick_sends r.state.moment port ≡ false)) (λ r. r) (λ r. refl))
 
   pub exact_ports_tick : IsExactRule Any IsPortsTick
   exact_ports_tick =
-      exact_attached IsPortTick (λ port. exact_both words_of Any Any (IsPortMoving port) (IsPortSending port) (exact_port_moving port) (λ r a p h. tt) (exact_port_sending port))
+      exact_attached IsPortTick (λ port. exact_both words_taken Any Any (IsPortMoving port) (IsPortSending port) (exact_port_moving port) (λ r a p h. tt) (exact_port_sending port))
 
 -- ---- prefixes are assigned
 
@@ -147,9 +147,9 @@ module _ (laws : TickLaws) where
   exact_losing : IsExactRule Well IsLosing
   exact_losing =
       let each = laws.refresh.keeps [] in
-      exact_both words_of Well Well IsExpiry (Then (λ b a. a ≡ ending b) IsRefresh)
-      (exact_by words_of Well Any IsExpiry (λ r is. tt) exact_expiry) (λ r a is h. expiry_walk [] Well each r a h is)
-      (exact_both words_of Well Well (λ b a. a ≡ ending b) IsRefresh (exact_plain words_of Well ending (λ r. refl)) (λ r a is h. ending_walk [] Well each r a h is)
+      exact_both words_taken Well Well IsExpiry (Then (λ b a. a ≡ ending b) IsRefresh)
+      (exact_by words_taken Well Any IsExpiry (λ r is. tt) exact_expiry) (λ r a is h. expiry_walk [] Well each r a h is)
+      (exact_both words_taken Well Well (λ b a. a ≡ ending b) IsRefresh (exact_plain words_taken Well ending (λ r. refl)) (λ r a is h. ending_walk [] Well each r a h is)
       (exact_refresh laws.refresh))
 
   -- it ends in a refresh
@@ -161,28 +161,28 @@ module _ (laws : TickLaws) where
 
   exact_settling : IsExactRule Whole IsSettling
   exact_settling =
-      exact_both words_of Whole Well IsAssigning IsRefresh (exact_assigning laws.assigning) (λ r a is h. assigning_walk [] Well (laws.refresh.keeps []) r a h is.well)
+      exact_both words_taken Whole Well IsAssigning IsRefresh (exact_assigning laws.assigning) (λ r a is h. assigning_walk [] Well (laws.refresh.keeps []) r a h is.well)
       (exact_refresh laws.refresh)
 
   pub exact_tick : IsExactRule Well IsTick
   exact_tick =
-      exact_both words_of Well Whole IsLosing (Then (λ b a. a ≡ forgetting b) (Then IsSettling IsPortsTick)) exact_losing losing_makes
-      (exact_both words_of Whole Whole (λ b a. a ≡ forgetting b) (Then IsSettling IsPortsTick) (exact_plain words_of Whole forgetting (λ r. refl))
+      exact_both words_taken Well Whole IsLosing (Then (λ b a. a ≡ forgetting b) (Then IsSettling IsPortsTick)) exact_losing losing_makes
+      (exact_both words_taken Whole Whole (λ b a. a ≡ forgetting b) (Then IsSettling IsPortsTick) (exact_plain words_taken Whole forgetting (λ r. refl))
       (λ r a is h. laws.forgets r a h is)
-      (exact_both words_of Whole Any IsSettling IsPortsTick exact_settling (λ r a is h. tt) (exact_ports_tick laws.sending)))
+      (exact_both words_taken Whole Any IsSettling IsPortsTick exact_settling (λ r a is h. tt) (exact_ports_tick laws.sending)))
 
 -- ---- the other events
 
 pub exact_attaching : (at : EpId) → IsExactRule Any (IsAttaching at)
 exact_attaching at =
     let rule : ℕ → Running → Running = λ word r. with_words (word ∷ []) (record r { state = record r.state { ports = attached (attached_port at r.state.moment word) r.state.ports } }) in
-    exact_like words_of Any (λ r a. (word : ℕ) × (a ≡ rule word r)) (IsAttaching at) (λ r a h. (h.word, h.gives)) (λ r a p h. record { word = h.0; gives = h.1 })
+    exact_like words_taken Any (λ r a. (word : ℕ) × (a ≡ rule word r)) (IsAttaching at) (λ r a h. (h.word, h.gives)) (λ r a p h. record { word = h.0; gives = h.1 })
     (exact_taking Any rule (λ word r. refl))
 
 exact_port_restart : (port : Port) → IsExactRule Any (IsPortRestart port)
 exact_port_restart port =
     let rule : ℕ → Running → Running = λ word r. with_words (word ∷ []) (with_port (attached_port port.id r.state.moment word) r) in
-    exact_like words_of Any (λ r a. (word : ℕ) × (a ≡ rule word r)) (IsPortRestart port) (λ r a h. (h.word, h.gives)) (λ r a p h. record { word = h.0; gives = h.1 })
+    exact_like words_taken Any (λ r a. (word : ℕ) × (a ≡ rule word r)) (IsPortRestart port) (λ r a h. (h.word, h.gives)) (λ r a p h. record { word = h.0; gives = h.1 })
     (exact_taking Any rule (λ word r. refl))
 
 -- each endpoint is attached anew
@@ -192,12 +192,12 @@ Restart s = Each (λ at. AtPort at IsPortRestart) (endpoints_of s.state.ports)
 exact_restart : RefreshLaws → (s : Running) → IsExactRule Well (λ r a. Then (Restart s) (Publishes 1) (emptied r) a)
 exact_restart laws s =
     let each = laws.keeps [] in
-    exact_after words_of Well Well emptied (Then (Restart s) (Publishes 1)) (λ r. refl) (λ r is. emptied_walk [] Well each r is)
-    (exact_both words_of Well CanPublish (Restart s) (Publishes 1)
-    (exact_by words_of Well Any (Restart s) (λ r is. tt) (exact_ports IsPortRestart exact_port_restart (endpoints_of s.state.ports)))
+    exact_after words_taken Well Well emptied (Then (Restart s) (Publishes 1)) (λ r. refl) (λ r is. emptied_walk [] Well each r is)
+    (exact_both words_taken Well CanPublish (Restart s) (Publishes 1)
+    (exact_by words_taken Well Any (Restart s) (λ r is. tt) (exact_ports IsPortRestart exact_port_restart (endpoints_of s.state.ports)))
     (λ r a is h. can_publish laws a (at_ports [] Well each IsPortRestart (beginning [] Well each) (endpoints_of s.state.ports) r a h is))
     (exact_publishes laws 1))
 
 pub exact_restarting : RefreshLaws → IsExactRule Well IsRestarting
 exact_restarting laws =
-    exact_start words_of Well (λ s r a. Then (Restart s) (Publishes 1) (emptied r) a) (λ s. (exact_restart laws s).sole) (λ s p. (exact_restart laws s).total)
+    exact_start words_taken Well (λ s r a. Then (Restart s) (Publishes 1) (emptied r) a) (λ s. (exact_restart laws s).sole) (λ s p. (exact_restart laws s).total)

@@ -99,7 +99,7 @@ pub use Rattle.hn_rules.specs.Posts.{HasCommonLink, endpoints_at}
 pub use Rattle.hn_rules.specs.Refresh.{IsHashing, IsPortReset, IsPublished, IsPublishing, IsReaching, IsRefresh, IsReset, Publishes, network_state_hash, next_number, own_items}
 pub use Rattle.hn_rules.specs.Requests.{IsNetworkRequest, held_state, is_reached, own_state, request_node, sent_age, sent_data, state_item, with_some_answer, with_state}
 pub use Rattle.hn_rules.specs.Router.{IfThere, IsFresh, IsHashed, IsRefreshed, IsRouter, IsUntouched, IsWell}
-pub use Rattle.hn_rules.specs.Rules.{AtPort, IsSole, IsTotal, Ran, Rule, begun_at, noted, with_port, with_words, words_of}
+pub use Rattle.hn_rules.specs.Rules.{AtPort, IsSole, IsTotal, Ran, Rule, begun_at, noted, with_port, with_words, words_taken}
 pub use Rattle.hn_rules.specs.Seen.{seen_by}
 pub use Rattle.hn_rules.specs.Still.{AreHeard, IsUneventful, at_moment}
 pub use Rattle.hn_rules.specs.Tick.{HasInterval, IsExpired, IsExpiry, IsPortExpiry, IsPortMoving, IsPortSending, IsPortTick, IsPortsTick, IsStateSending, Without, forgetting}

@@ -12,7 +12,7 @@ use Rattle.hn_own.specs.Lifetimes.{end_after}
 use Rattle.hn_own.specs.OwnPrefixes.{is_before}
 use Rattle.hn_own.specs.Posts.{private_posts}
 use Rattle.hn_own.specs.Ranges.{IsRangedPeer, IsRangedHeld, IsRangedOwn}
-use Rattle.hn_rules.specs.Router.{EndsSoon, IsNear}
+use Rattle.hn_rules.specs.Router.{EndsInRange, IsNear}
 use Rattle.hn_rules.proofs.Finding.{find_all, without-all}
 
 -- the numbers of a router
@@ -82,16 +82,16 @@ end_near : (now seconds : ℕ) → seconds < 2 ^ 32 → IfThere (λ moment. mome
 end_near now seconds fits =
     cond_both (seconds == 4294967295) None (Some (now + 1000 * seconds)) (IfThere (λ moment. moment ≤ now + 1000 * 2 ^ 32)) (λ _. tt) (λ _. omega arith)
 
-prefixes_near : (how : PrefixChange) (s : State) → MayChangePrefixes how s → All (EndsSoon s.moment) s.delegated → All (EndsSoon s.moment) (prefixes_after how s)
+prefixes_near : (how : PrefixChange) (s : State) → MayChangePrefixes how s → All (EndsInRange s.moment) s.delegated → All (EndsInRange s.moment) (prefixes_after how s)
 prefixes_near (Delegate prefix valid preferred) s (fits, may) all =
     let own : OwnPrefix = own_prefix s.moment prefix valid preferred in
     let before = λ (p : OwnPrefix). is_before p.prefix own.prefix in
     let behind = λ (p : OwnPrefix). is_before own.prefix p.prefix in
-    let one : EndsSoon s.moment own = record { valid = end_near s.moment valid fits.valid_fits; preferred = end_near s.moment preferred fits.preferred_fits } in
-    All-append (EndsSoon s.moment) (filter before s.delegated) (own ∷ filter behind s.delegated) (All-filter before (EndsSoon s.moment) s.delegated all)
-    (All-cons (EndsSoon s.moment) own (filter behind s.delegated) one (All-filter behind (EndsSoon s.moment) s.delegated all))
-prefixes_near (Withdraw prefix) s may all = All-filter (λ (p : OwnPrefix). not (is_prefix prefix p)) (EndsSoon s.moment) s.delegated all
-prefixes_near End s may all = All-filter (λ (p : OwnPrefix). not (has_ended s.moment p.valid_until)) (EndsSoon s.moment) s.delegated all
+    let one : EndsInRange s.moment own = record { valid = end_near s.moment valid fits.valid_fits; preferred = end_near s.moment preferred fits.preferred_fits } in
+    All-append (EndsInRange s.moment) (filter before s.delegated) (own ∷ filter behind s.delegated) (All-filter before (EndsInRange s.moment) s.delegated all)
+    (All-cons (EndsInRange s.moment) own (filter behind s.delegated) one (All-filter behind (EndsInRange s.moment) s.delegated all))
+prefixes_near (Withdraw prefix) s may all = All-filter (λ (p : OwnPrefix). not (is_prefix prefix p)) (EndsInRange s.moment) s.delegated all
+prefixes_near End s may all = All-filter (λ (p : OwnPrefix). not (has_ended s.moment p.valid_until)) (EndsInRange s.moment) s.delegated all
 
 -- while time passes they stay near
 near_there : (moment now : ℕ) (o : Option ℕ) → moment ≤ now → IfThere (λ m. m ≤ moment + 1000 * 2 ^ 32) o → IfThere (λ m. m ≤ now + 1000 * 2 ^ 32) o
@@ -102,7 +102,7 @@ pub ranged_later : (now : ℕ) (s : State) → s.moment ≤ now → IsRangedStat
 ranged_later now s rises (own, private, near) =
     let later : IsNear now s.delegated s.held = record {
       backoffs = All-weaker (IsSoonDue s.moment) (IsSoonDue now) (λ b soon. omega arith) s.held.backoffs near.backoffs;
-      ends = All-weaker (EndsSoon s.moment) (EndsSoon now)
+      ends = All-weaker (EndsInRange s.moment) (EndsInRange now)
           (λ p ends. record { valid = near_there s.moment now p.valid_until rises ends.valid; preferred = near_there s.moment now p.preferred_until rises ends.preferred }) s.delegated near.ends;
     } in
     (own, private, later)

@@ -61,7 +61,7 @@ pub record IsPosted (s : State) : Type 0 where
   pub linked : All (λ link. 0 < link.endpoint.0) s.own.items.links
 
 -- the lifetimes of an own delegated prefix end within 2^32 s, where they end
-pub record EndsSoon (now : ℕ) (own : OwnPrefix) : Type 0 where
+pub record EndsInRange (now : ℕ) (own : OwnPrefix) : Type 0 where
   pub valid : IfThere (λ moment. moment ≤ now + 1000 * 2 ^ 32) own.valid_until
   pub preferred : IfThere (λ moment. moment ≤ now + 1000 * 2 ^ 32) own.preferred_until
 
@@ -69,7 +69,7 @@ pub record EndsSoon (now : ℕ) (own : OwnPrefix) : Type 0 where
 -- 2^32 s. So they are below 2^49, where the router's moment is at most 2^48.
 pub record IsNear (now : ℕ) (delegated : List OwnPrefix) (held : Held) : Type 0 where
   pub backoffs : All (IsSoonDue now) held.backoffs
-  pub ends : All (EndsSoon now) delegated
+  pub ends : All (EndsInRange now) delegated
 
 -- What each rule keeps: the containers' facts, the own identifier is not held, moments and numbers are in range, the
 -- numbers of the own items and of the private link fit, and moments to come are near.

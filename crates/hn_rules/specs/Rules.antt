@@ -22,24 +22,24 @@ abbrev pub AtPort : EpId → (Port → Rule) → Rule
 AtPort at rule before after = OnSome rule (port_at at before.state.ports) before after
 
 -- the words that were taken so far
-abbrev pub words_of : Running → List ℕ
-words_of r = r.done.words
+abbrev pub words_taken : Running → List ℕ
+words_taken r = r.done.words
 
 -- a rule ran, and a draw that told these words before and after moved by exactly the words that the rule took
 abbrev pub Ran : Rule → Option (ℕ → ℕ) → Option (ℕ → ℕ) → Running → Running → Type 0
-Ran = RanBy words_of
+Ran = RanBy words_taken
 
 -- a rule gives no word back, and over one stream of words it has at most one result
 abbrev pub IsSole : Rule → Type 0
-IsSole = IsSoleBy words_of
+IsSole = IsSoleBy words_taken
 
 -- where a fact holds before, it cannot be that a rule has no result over a stream of words that begins with those taken
 abbrev pub IsTotal : (Running → Type 0) → Rule → Type 0
-IsTotal = IsTotalBy words_of
+IsTotal = IsTotalBy words_taken
 
 -- where a fact holds before, a rule has exactly one result over a stream of words that begins with those taken
 abbrev pub IsExactRule : (Running → Type 0) → Rule → Type 0
-IsExactRule = IsExactBy words_of
+IsExactRule = IsExactBy words_taken
 
 -- with more words taken
 abbrev pub with_words : List ℕ → Running → Running

@@ -9,7 +9,7 @@ use Rattle.hn_watch.specs.Shown.{AreShownIn}
 use Rattle.hn_watch.specs.Watch.{malformed_of, Holds}
 use Rattle.hn_watch.specs.Laws.{ListsShow, HeldAfterMalformed}
 use Rattle.hn_run.specs.Watch.{IsCaptureLine, CaptureFault, CaptureFaultFrom, AreFed, IsWatched, IsRefusedCapture}
-use Rattle.hn_run.specs.Capture.{IsLineFed, HasFed, IsRead, IsTextOf}
+use Rattle.hn_run.specs.Capture.{IsLineFed, HasFed, IsFedBy, IsTextOf}
 
 -- ---- one more datagram
 
@@ -94,7 +94,7 @@ read_more shows still bytes rest others text datagram line old new read parts sh
       within = omega arith;
     }
 
-pub all_read : (bytes rest : List ℕ) (line : ℕ) (watch : Watch) → IsReadTo bytes rest line watch → lines_of rest ≡ [] → IsRead bytes watch
+pub all_read : (bytes rest : List ℕ) (line : ℕ) (watch : Watch) → IsReadTo bytes rest line watch → lines_of rest ≡ [] → IsFedBy bytes watch
 all_read bytes rest line watch read ends = record {
   datagrams = read.datagrams;
   lines = subst (AllZip IsCaptureLine read.datagrams) (sym (read.parts ∙ ap (λ xs. read.front ++ xs) ends ∙ append-nil read.front)) read.lines;
@@ -137,7 +137,7 @@ capture_passes bytes text datagrams is (inr faulty) = no_fault_from datagrams (l
 
 -- ---- the text
 
-pub watched : (bytes text : List ℕ) (watch : Watch) → length bytes ≤ 2 ^ 24 → IsRead bytes watch → IsTextOf watch text → IsWatched bytes text
+pub watched : (bytes text : List ℕ) (watch : Watch) → length bytes ≤ 2 ^ 24 → IsFedBy bytes watch → IsTextOf watch text → IsWatched bytes text
 watched bytes text watch short read told = record {
   datagrams = read.datagrams;
   capture = record { short = short; lines = read.lines };

@@ -20,7 +20,7 @@ pub use Rattle.hn_rules.specs.declared.state.State.{State}
 pub use Rattle.hn_run.specs.Decode.{AppendsCut, CutsDecode, IsDecodeOf, SpellsTlvs, WritesDecode, malformed_line, written_status}
 pub use Rattle.hn_run.specs.Form.{ArePeerPorts, IsFormOf}
 pub use Rattle.hn_run.specs.HexText.{unblanked}
-pub use Rattle.hn_run.specs.Node.{IsNodeRun, IsOverfull, IsSetUp, LineHolds, LinesHappen, MakesNode, Outside, PlainCall, StatusOfNode, event_of, is_too_many, line_of, node_line, plain_call}
+pub use Rattle.hn_run.specs.Node.{IsNodeRun, IsOverfull, IsSetUp, LineHolds, LinesHappen, MakesNode, Outside, PlainCall, StatusOfNode, node_event_of, is_too_many, served_line, node_line, plain_call}
 pub use Rattle.hn_run.specs.Outcome.{WatchHolds}
 pub use Rattle.hn_run.specs.Watch.{CutsWatch, IsCapture, StarvesWatch, WritesWatch, watch_line, watch_text}
 pub use Rattle.hn_run.specs.declared.words.Form.TheVariants.{Decode, Lab, Node, Soak, Udp, Watch}

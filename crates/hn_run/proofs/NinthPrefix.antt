@@ -1,7 +1,7 @@
 -- Whether a line is a ninth prefix: the lines before it say so, whatever the moment and the random words.
 use Rattle.hn_base.proofs.Names.{◌≡◌, ◌∙◌, inl, inr, ℕ, Bool, true, false, not, cond, List, [], ◌∷◌, ◌++◌, map, filter, length, refl, sym, ap, subst, map-append, length-map, list_any, PlainPrefix}
 use Rattle.hn_base.proofs.Names.{Then, KeepsBy}
-use Rattle.hn_run.proofs.Names.{EpId, NodeId, Port, endpoints_of, Attach, Done, State, NodeLine, event_of, is_too_many, LinesHappen, IsSetUp, IsOverfull}
+use Rattle.hn_run.proofs.Names.{EpId, NodeId, Port, endpoints_of, Attach, Done, State, NodeLine, node_event_of, is_too_many, LinesHappen, IsSetUp, IsOverfull}
 use Rattle.std.proofs.Common.{◌==◌, ◌&&◌, ◌||◌}
 use Rattle.std.specs.Prelude.{nat_lt}
 use Rattle.hn_base.proofs.RulesKeepPart.{kept_then, kept_each, kept_on}
@@ -90,7 +90,7 @@ abbrev by_line : ℕ → NodeLine → List OwnPrefix → List OwnPrefix
 by_line now (line.Caps caps) list = list
 by_line now (line.External prefix valid preferred) list = delegated_with (own_prefix now prefix valid preferred) list
 
-after_line : (now : ℕ) (l : NodeLine) (s next : State) (done : Done) → is_too_many s l ≡ false → Happened now (event_of l) s next done → next.delegated ≡ by_line now l s.delegated
+after_line : (now : ℕ) (l : NodeLine) (s next : State) (done : Done) → is_too_many s l ≡ false → Happened now (node_event_of l) s next done → next.delegated ≡ by_line now l s.delegated
 unfolding Happened
 after_line now (line.Caps caps) s next done room (after, inl h, due, is) = ap (λ (x : State). x.delegated) due.2 ∙ ap delegated_in h.1
 after_line now (line.Caps caps) s next done room (after, inr h, due, is) =

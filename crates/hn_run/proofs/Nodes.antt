@@ -2,8 +2,8 @@
 use Rattle.hn_base.proofs.Names.{◌≡◌, ◌≢◌, ◌∙◌, ◌⊎◌, ◌<◌, ◌≤◌, ◌^◌, ◌-◌, min, zero-add, ℕ, zero, suc, List, [], ◌∷◌, Option, Some, None, Result, Ok, Err, length, take, inl, inr, refl, sym, ap, subst}
 use Rattle.hn_base.proofs.Names.{arith, lit<, OnOk, OnErr, All, Appends, AllZip, All-nil, All-cons, Took, Begins}
 use Rattle.hn_run.proofs.Names.{IfSome, Contains, NodeId, One, IoFault, Failed, NoMemory, AppendsPart, Served, IsNumberText, Datagram, written_status, ArePeerPorts, IsFormOf, Node, LineHolds}
-use Rattle.hn_run.proofs.Names.{PlainCall, plain_call, Outside, node_line, line_of, MakesNode, StatusOfNode, NodeCall}
-use Rattle.hn_node.specs.Turns.{Serving, Turns, CutTurns, IsBounded, handed_in}
+use Rattle.hn_run.proofs.Names.{PlainCall, plain_call, Outside, node_line, served_line, MakesNode, StatusOfNode, NodeCall}
+use Rattle.hn_node.specs.Turns.{Serving, AreTurns, CutTurns, IsBounded, handed_in}
 use Rattle.hn_node.specs.declared.served.ServeEnd.{ServeEnd}
 use Rattle.hn_node.specs.declared.served.ServeEnd.TheVariants as ending
 use Rattle.hn_world.specs.Within.{IsWithinLimits}
@@ -102,7 +102,7 @@ as_called P a b words h k holds =
 -- ---- the line on a router that was served
 
 pub line_is : (s : Served) (id : NodeId) (number : ℕ) (reach : List NodeId) (line : List ℕ) → id ≡ s.router.id → number ≡ s.router.number
-    → reach ≡ s.router.reach → line ≡ node_line id number (length reach) s.taken s.sent → line ≡ line_of s
+    → reach ≡ s.router.reach → line ≡ node_line id number (length reach) s.taken s.sent → line ≡ served_line s
 line_is s id number reach line ids numbers reaches is =
     is
     ∙ ap (λ (x : NodeId). node_line x number (length reach) s.taken s.sent) ids
@@ -167,16 +167,16 @@ pub record Told (call : PlainCall) (status : ℕ) (s : Served) (first last : Ser
   pub appends : Appends a b written
 
 pub told_served : (call : PlainCall) (status : ℕ) (s : Served) (first last : Serving) (readings rest : Option (List ℕ)) (a b : Option (List ℕ))
-    → (s.end ≡ ending.Turns → Turns (site_of call) call.turns s.log first last readings rest × (s.sent ≡ min (length (handed_in (site_of call) s.log)) (2 ^ 64 - 1)))
+    → (s.end ≡ ending.Turns → AreTurns (site_of call) call.turns s.log first last readings rest × (s.sent ≡ min (length (handed_in (site_of call) s.log)) (2 ^ 64 - 1)))
     → (s.end ≡ ending.WireFault → (handed : List Datagram) × CutTurns (site_of call) call.turns s.log handed first last readings rest × (s.sent ≡ min (length handed) (2 ^ 64 - 1)))
-    → (s.end ≡ ending.Turns → (held : List ℕ) × LineHolds status (line_of s) held × Appends a b held × Contains (0 ∷ 4 ∷ 6 ∷ []) status)
+    → (s.end ≡ ending.Turns → (held : List ℕ) × LineHolds status (served_line s) held × Appends a b held × Contains (0 ∷ 4 ∷ 6 ∷ []) status)
     → (s.end ≡ ending.WireFault → (status ≡ 5) × Appends a b [])
     → Told call status s first last readings rest a b
 told_served call status s first last readings rest a b turns cut told untold = elim (ended s.end) [
   | inl all ↦
       let made = turns all in
       let held = told all in
-      record { text = line_of s; ends = inl (all, made.0, made.1, status_of 0 status held.3, refl); written = held.0; holds = held.1; appends = held.2 }
+      record { text = served_line s; ends = inl (all, made.0, made.1, status_of 0 status held.3, refl); written = held.0; holds = held.1; appends = held.2 }
   | inr fails ↦
       let five = (untold fails).0 in
       record { text = []; ends = inr (fails, cut fails, five, refl); written = []; holds = inr (inr ((λ four. omega arith), (λ six. omega arith), refl)); appends = (untold fails).1 }

@@ -1,6 +1,6 @@
 -- The router that `node` serves at first.
 use Rattle.hn_base.proofs.Names.{◌≡◌, ◌∙◌, ◌<◌, ℕ, suc, Bool, true, false, List, [], ◌∷◌, ◌++◌, append_assoc, length, get_or, take, drop, refl, sym, ap, subst, drop-cons, take-append-drop}
-use Rattle.hn_run.proofs.Names.{append-nil, EpId, NodeId, Port, endpoints_of, Attach, Happened, Done, State, NodeLine, LinesHappen, IsSetUp, IsOverfull, event_of, is_too_many}
+use Rattle.hn_run.proofs.Names.{append-nil, EpId, NodeId, Port, endpoints_of, Attach, Happened, Done, State, NodeLine, LinesHappen, IsSetUp, IsOverfull, node_event_of, is_too_many}
 use Rattle.std.proofs.Common.{if◌then◌else◌}
 use Rattle.std.specs.Prelude.{IsTrue}
 use Rattle.hn_own.specs.Ports.{is_attached}
@@ -30,26 +30,27 @@ same_ends : (e : PlainEvent) (b : Bool) (ends : List EpId) → endpoints_by e en
 same_ends e true ends is = refl
 same_ends e false ends is = is
 
-keeps_ends : (l : NodeLine) (ends : List EpId) → endpoints_by (event_of l) ends ≡ ends
+keeps_ends : (l : NodeLine) (ends : List EpId) → endpoints_by (node_event_of l) ends ≡ ends
 keeps_ends (line.Caps caps) ends = refl
 keeps_ends (line.External prefix valid preferred) ends = refl
 
-pub ends_of_line : EndpointsFollow → (l : NodeLine) (now : ℕ) (before after : State) (done : Done) → Happened now (event_of l) before after done → endpoints_of after.ports ≡ endpoints_of before.ports
+pub ends_of_line : EndpointsFollow → (l : NodeLine) (now : ℕ) (before after : State) (done : Done) → Happened now (node_event_of l) before after done
+    → endpoints_of after.ports ≡ endpoints_of before.ports
 ends_of_line follow l now before after done happened =
-    follow now (event_of l) before after done happened ∙ same_ends (event_of l) (is_refused (event_of l) before) (endpoints_of before.ports) (keeps_ends l (endpoints_of before.ports))
+    follow now (node_event_of l) before after done happened ∙ same_ends (node_event_of l) (is_refused (node_event_of l) before) (endpoints_of before.ports) (keeps_ends l (endpoints_of before.ports))
 
 -- ---- lines one after another
 
 -- one more line
 lines_more : (now : ℕ) (lines : List (ℕ × NodeLine)) (l : ℕ × NodeLine) (words : List ℕ) (before between after : State) (done : Done)
-    → LinesHappen now lines words before between → is_too_many between l.1 ≡ false → Happened now (event_of l.1) between after done
+    → LinesHappen now lines words before between → is_too_many between l.1 ≡ false → Happened now (node_event_of l.1) between after done
     → LinesHappen now (lines ++ l ∷ []) (words ++ done.words) before after
 lines_more now [] l words before between after done h room happened = (
   after,
   done,
   [],
   subst (λ (s : State). is_too_many s l.1 ≡ false) h.1 room,
-  subst (λ (s : State). Happened now (event_of l.1) s after done) h.1 happened,
+  subst (λ (s : State). Happened now (node_event_of l.1) s after done) h.1 happened,
   ap (λ (w : List ℕ). w ++ done.words) h.0 ∙ sym (append-nil done.words),
   (refl, refl),
 )
@@ -78,7 +79,7 @@ set_up_first id now new after done is happened = record {
 
 -- one line more
 pub set_up_more : (id : NodeId) (lines : List (ℕ × NodeLine)) (l : ℕ × NodeLine) (now : ℕ) (words : List ℕ) (router after : State) (done : Done)
-    → IsSetUp id lines now words router → is_too_many router l.1 ≡ false → Happened now (event_of l.1) router after done
+    → IsSetUp id lines now words router → is_too_many router l.1 ≡ false → Happened now (node_event_of l.1) router after done
     → IsSetUp id (lines ++ l ∷ []) now (words ++ done.words) after
 set_up_more id lines l now words router after done up room happened = record {
   new = up.new;
@@ -112,7 +113,7 @@ overfull_at id lines i l now number words router within is same up full = record
 
 lines_limit : LimitStays → (now : ℕ) (lines : List (ℕ × NodeLine)) (words : List ℕ) (before after : State) → LinesHappen now lines words before after → after.table.limit ≡ before.table.limit
 lines_limit stays now [] words before after h = ap (λ (s : State). s.table.limit) h.1
-lines_limit stays now (l ∷ lines) words before after h = lines_limit stays now lines h.2 h.0 after h.6 ∙ stays now (event_of l.1) before h.0 h.1 h.4
+lines_limit stays now (l ∷ lines) words before after h = lines_limit stays now lines h.2 h.0 after h.6 ∙ stays now (node_event_of l.1) before h.0 h.1 h.4
 
 pub limit_of_set_up : LimitStays → (id : NodeId) (lines : List (ℕ × NodeLine)) (now : ℕ) (words : List ℕ) (router : State) → IsSetUp id lines now words router → router.table.limit ≡ 256
 limit_of_set_up stays id lines now words router up =

@@ -30,7 +30,7 @@ pub record HasFed (datagrams : List (List ℕ)) (watch : Watch) : Type 0 where
   pub count : fed_of watch ≡ length datagrams
 
 -- a watch was fed with the lines of a capture
-pub record IsRead (bytes : List ℕ) (watch : Watch) : Type 0 where
+pub record IsFedBy (bytes : List ℕ) (watch : Watch) : Type 0 where
   pub datagrams : List (List ℕ)
   pub lines : AllZip IsCaptureLine datagrams (lines_of bytes)
   pub has : HasFed datagrams watch

@@ -14,7 +14,7 @@ abbrev pub malformed_line : ℕ → ℕ → List ℕ
 malformed_line place why = codes "malformed place=" ++ decimal place ++ codes " why=" ++ decimal why ++ 10 ∷ []
 
 -- octets that are no list of TLVs
-pub record IsMalformed (octets : List ℕ) (status : ℕ) (text : List ℕ) : Type 0 where
+pub record AreMalformedOctets (octets : List ℕ) (status : ℕ) (text : List ℕ) : Type 0 where
   pub place : ℕ
   pub why : ℕ
   pub fault : FirstFault octets place why
@@ -29,7 +29,7 @@ written_status (Err NoMemory) whole = 6
 
 -- what is written of octets, and with which status
 abbrev pub IsContentsOf : List ℕ → ℕ → List ℕ → Type 0
-IsContentsOf octets status text = ((status ≡ 0) × IsDecodeText octets text) ⊎ IsMalformed octets status text
+IsContentsOf octets status text = ((status ≡ 0) × IsDecodeText octets text) ⊎ AreMalformedOctets octets status text
 
 -- a source that is refused with a code: more than 2^24 bytes with 15, no hexadecimal text with 4
 abbrev pub IsRefusedSource : List ℕ → ℕ → List ℕ → Type 0

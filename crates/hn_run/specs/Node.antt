@@ -11,7 +11,7 @@ use Rattle.hn_base.specs.declared.ids.NodeId.{NodeId}
 use Rattle.hn_io.specs.Pcg.{pcg_word}
 use Rattle.hn_lab.specs.Output.{IsPart, IsFrontOf}
 use Rattle.hn_lab.specs.Reports.{refused_line}
-use Rattle.hn_node.specs.Turns.{PlainSite, Serving, serving, Turns, CutTurns, StarvesTurns, handed_in, arrivals_in, words_of}
+use Rattle.hn_node.specs.Turns.{PlainSite, Serving, serving, AreTurns, CutTurns, StarvesTurns, handed_in, arrivals_in, logged_words}
 use Rattle.hn_node.specs.declared.served.ServeEnd.{ServeEnd}
 use Rattle.hn_node.specs.declared.served.ServeEnd.TheVariants as ending
 use Rattle.hn_node.specs.declared.served.Served.{Served}
@@ -52,9 +52,9 @@ site_of call = record { port = call.port; peers = call.peers }
 -- ---- setting up
 
 -- a line of the file, as an event
-abbrev pub event_of : NodeLine → PlainEvent
-event_of (line.Caps caps) = SetCaps caps
-event_of (line.External prefix valid preferred) = External prefix valid preferred
+abbrev pub node_event_of : NodeLine → PlainEvent
+node_event_of (line.Caps caps) = SetCaps caps
+node_event_of (line.External prefix valid preferred) = External prefix valid preferred
 
 -- a line is a delegated prefix that a router may not have, since it has eight others
 abbrev pub is_too_many : State → NodeLine → Bool
@@ -66,7 +66,7 @@ abbrev pub LinesHappen : ℕ → List (ℕ × NodeLine) → List ℕ → State �
 LinesHappen now [] words before after = (words ≡ []) × (after ≡ before)
 LinesHappen now (l ∷ lines) words before after =
     (between : State) × (done : Done) × (rest : List ℕ) × (is_too_many before l.1 ≡ false)
-    × Happened now (event_of l.1) before between done × (words ≡ done.words ++ rest) × LinesHappen now lines rest between after
+    × Happened now (node_event_of l.1) before between done × (words ≡ done.words ++ rest) × LinesHappen now lines rest between after
 
 -- the router that is served: a new one, endpoint 1 is attached, and the lines of the file happen to it
 pub record IsSetUp (id : NodeId) (lines : List (ℕ × NodeLine)) (now : ℕ) (words : List ℕ) (router : State) : Type 0 where
@@ -103,8 +103,8 @@ node_line id number reach taken sent =
     codes "node id=" ++ id_text id.0 ++ codes " number=" ++ decimal number ++ codes " reach=" ++ decimal reach
     ++ codes " taken=" ++ decimal taken ++ codes " sent=" ++ decimal sent ++ 10 ∷ []
 
-abbrev pub line_of : Served → List ℕ
-line_of s = node_line s.router.id s.router.number (length s.router.reach) s.taken s.sent
+abbrev pub served_line : Served → List ℕ
+served_line s = node_line s.router.id s.router.number (length s.router.reach) s.taken s.sent
 
 -- the status of a line that was to be written: this one where it was written whole, 4 where the sink failed, 6 where memory
 -- ended
@@ -114,8 +114,8 @@ IsStatusOf whole status = (status ≡ whole) ⊎ ((status ≡ 4) ⊎ (status ≡
 -- how the turns ended, the status, and the text: all were made; or the wire failed, and nothing is written
 abbrev pub EndsServing : PlainCall → ℕ → Served → Serving → Serving → Option (List ℕ) → Option (List ℕ) → List ℕ → Type 0
 EndsServing call status s first last readings rest text =
-    ((s.end ≡ ending.Turns) × Turns (site_of call) call.turns s.log first last readings rest
-    × (s.sent ≡ min (length (handed_in (site_of call) s.log)) (2 ^ 64 - 1)) × IsStatusOf 0 status × (text ≡ line_of s))
+    ((s.end ≡ ending.Turns) × AreTurns (site_of call) call.turns s.log first last readings rest
+    × (s.sent ≡ min (length (handed_in (site_of call) s.log)) (2 ^ 64 - 1)) × IsStatusOf 0 status × (text ≡ served_line s))
     ⊎ ((s.end ≡ ending.WireFault)
     × ((handed : List Datagram) × CutTurns (site_of call) call.turns s.log handed first last readings rest × (s.sent ≡ min (length handed) (2 ^ 64 - 1)))
     × (status ≡ 5) × (text ≡ []))
@@ -130,7 +130,7 @@ pub record IsServed (call : PlainCall) (bytes : List ℕ) (status : ℕ) (s : Se
   pub words : List ℕ
   pub router : State
   pub set_up : IsSetUp call.id lines now words router
-  pub drew : Begins (words ++ words_of s.log) (pcg_word (pcg32_of_seed (pcg32_seed 16 call.seed)))
+  pub drew : Begins (words ++ logged_words s.log) (pcg_word (pcg32_of_seed (pcg32_seed 16 call.seed)))
   pub taken_is : s.taken ≡ arrivals_in s.log
   pub ends : EndsServing call status s (serving router before.waiting) (serving s.router after.waiting) readings after.readings text
 

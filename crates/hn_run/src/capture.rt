@@ -6,7 +6,7 @@ ghost use Rattle.hn_script.specs.declared.fault.ScriptFault.{ScriptFault};
 ghost use Rattle.hn_script.specs.Texts.{lines_of};
 ghost use Rattle.hn_watch.specs.Watch.{fed_of};
 ghost use Rattle.hn_run.specs.Watch.{IsCaptureLine, CaptureFault, CaptureFaultFrom};
-ghost use Rattle.hn_run.specs.Capture.{IsLineFed, IsRead};
+ghost use Rattle.hn_run.specs.Capture.{IsLineFed, IsFedBy};
 
 use hn_script::{MALFORMED, ParseFault, ScriptFault, hex_word, next_line};
 use hn_tlv::{ListFault, first_fault_is_unique};
@@ -53,7 +53,7 @@ fn feed_line(alloc: Global, watch: &mut Watch, line: u32, text: &[u8]) -> Result
 /// The first line with a fault, or out of memory.
 pub fn read_capture(alloc: Global, bytes: &[u8]) -> Result<Watch, ParseFault>
     requires { length bytes.now ≤ 2 ^ 24 }
-    ensures read { IfOk result (IsRead bytes.now) }
+    ensures read { IfOk result (IsFedBy bytes.now) }
     ensures refused { (fault : ScriptFault) → result ≡ Err (Refused fault) → CaptureFaultFrom 1 (lines_of bytes.now) fault }
 {
     lists_show();

@@ -10,7 +10,7 @@ ghost use Rattle.hn_node.specs.declared.served.ServeEnd.{ServeEnd};
 ghost use Rattle.hn_script.specs.NodeFile.{IsNodeFile};
 ghost use Rattle.hn_base.specs.declared.version.Version.TheVariants.{One};
 ghost use Rattle.hn_world.specs.Within.{IsWithinLimits};
-ghost use Rattle.hn_run.specs.Node.{IsCall, IsOverfull, IsNodeRun, MakesNode, StatusOfNode, LineHolds, line_of, plain_call};
+ghost use Rattle.hn_run.specs.Node.{IsCall, IsOverfull, IsNodeRun, MakesNode, StatusOfNode, LineHolds, served_line, plain_call};
 
 use crate::outcome::Outcome;
 use crate::setup::{SetupFault, set_up};
@@ -35,7 +35,7 @@ const FULL: u8 = 9;
 
 /// The line on a router that was served.
 fn node_line(alloc: Global, served: &Served) -> Result<String, AllocError>
-    ensures { IfOk result (λ line. string_bytes line ≡ line_of served.now) }
+    ensures { IfOk result (λ line. string_bytes line ≡ served_line served.now) }
 {
     let id = served.router.id();
     let number = served.router.number();
@@ -47,8 +47,8 @@ fn node_line(alloc: Global, served: &Served) -> Result<String, AllocError>
 
 /// Writes that line.
 fn write_served<K: Sink>(alloc: Global, served: &Served, out: &mut K) -> Result<(), IoFault>
-    ensures ok { OnOk result (Appends (K.held out.old) (K.held out.new) (line_of served.now)) }
-    ensures cut { OnErr result (AppendsPart (K.held out.old) (K.held out.new) (line_of served.now)) }
+    ensures ok { OnOk result (Appends (K.held out.old) (K.held out.new) (served_line served.now)) }
+    ensures cut { OnErr result (AppendsPart (K.held out.old) (K.held out.new) (served_line served.now)) }
     ensures caused { IsCaused (result ≡ Err IoFault.Failed) (K.faults out.old) (K.faults out.new)
         (K.never_fails out.old) (K.never_fails out.new) }
 {
@@ -71,7 +71,7 @@ fn refuse<K: Sink>(alloc: Global, line: u32, code: u8, out: &mut K) -> Outcome
 
 /// Tells of a router that was served; nothing where the wire failed.
 fn tell<K: Sink>(alloc: Global, served: Served, out: &mut K) -> Outcome
-    ensures told { served.end ≡ ServeEnd.Turns → (written : List ℕ) × LineHolds result.status (line_of served) written
+    ensures told { served.end ≡ ServeEnd.Turns → (written : List ℕ) × LineHolds result.status (served_line served) written
         × Appends (K.held out.old) (K.held out.new) written × Contains (DONE ∷ SINK_FAILED ∷ NO_MEMORY ∷ []) result.status }
     ensures untold { served.end ≡ ServeEnd.WireFault → (result.status ≡ WIRE_FAILED) × (out.new ≡ out.old) }
     ensures served { ((result.status ≡ NO_MEMORY) × (result.served ≡ None)) ⊎ ((result.status ≢ NO_MEMORY) × (result.served ≡ Some served)) }

@@ -5,7 +5,7 @@ ghost use Rattle.hn_base.specs.Words.{Took};
 ghost use Rattle.hn_own.specs.Ports.{endpoints_of, is_attached};
 ghost use Rattle.hn_router.specs.Act.{Happened};
 ghost use Rattle.hn_rules.specs.declared.done.Done.{Done};
-ghost use Rattle.hn_run.specs.Node.{IsSetUp, IsOverfull, event_of, is_too_many};
+ghost use Rattle.hn_run.specs.Node.{IsSetUp, IsOverfull, node_event_of, is_too_many};
 ghost use Rattle.hn_run.specs.declared.setup.SetupFault.TheVariants as fault;
 
 use hn_base::{EpId, Moment, NoMemory, NodeId};
@@ -70,7 +70,7 @@ fn apply<D: Draw>(
 ) -> Result<(), NoMemory>
     requires moment { router.old.moment ≡ now }
     requires in_range { now ≤ 2 ^ 48 }
-    ensures happened { OnOk result ((done : Done) × Happened now (event_of line.now) router.old router.new done × Took (D.words draw.old) done.words (D.words draw.new)) }
+    ensures happened { OnOk result ((done : Done) × Happened now (node_event_of line.now) router.old router.new done × Took (D.words draw.old) done.words (D.words draw.new)) }
     ensures ends { OnOk result (endpoints_of router.new.ports ≡ endpoints_of router.old.ports) }
     ensures moment { OnOk result (router.new.moment ≡ now) }
 {

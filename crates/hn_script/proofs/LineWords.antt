@@ -8,7 +8,7 @@ use Rattle.hn_script.proofs.Names.{Ula, Ulas, Radv, Solicit}
 use Rattle.std.proofs.Common.{◌||◌}
 use Rattle.hn_base.specs.declared.caps.Caps.{Caps as PriorityCaps}
 use Rattle.hn_base.specs.declared.ids.NodeId.{NodeId}
-use Rattle.hn_script.specs.FirstWords.{shared_words, router_words, prefix_words, range_words}
+use Rattle.hn_script.specs.FirstWords.{shared_firsts, router_firsts, prefix_firsts, range_firsts}
 use Rattle.hn_script.specs.Line.{any_number, time_from}
 use Rattle.hn_script.proofs.WordBytes.{is_letters}
 use Rattle.hn_script.proofs.WordFaults.{fault_after}
@@ -245,7 +245,7 @@ inject_follows _ h = absurd (false≢true h)
 
 -- the first words that no other line shares what follows with, and those that lines share
 abbrev pub known_words : List (List ℕ)
-known_words = range_words ++ prefix_words ++ router_words ++ shared_words
+known_words = range_firsts ++ prefix_firsts ++ router_firsts ++ shared_firsts
 
 known_first : (line : Line) → is_one_of known_words (line_spelling line).first ≡ true
 known_first (Router a b) = refl
@@ -263,7 +263,7 @@ first_letters _ = refl
 -- ---- the lines that are of no other group
 
 -- a line of the words of routers is one of these
-pub no_other_of_router : (line : Line) → IsOneOf router_words (line_spelling line).first
+pub no_other_of_router : (line : Line) → IsOneOf router_firsts (line_spelling line).first
     → ((name : Name) (id : NodeId) → line ≢ Router name id) → ((name : Name) (e : EpId) (link : Name) → line ≢ Attach name e link)
     → ((name : Name) (caps : PriorityCaps) → line ≢ Caps name caps) → ((name : Name) (e : EpId) (letter : Letter) → line ≢ Elect name e letter)
     → ((name : Name) (e : EpId) (how : How) (bytes : List ℕ) → line ≢ Inject name e how bytes) → ⊥
@@ -272,13 +272,13 @@ no_other_of_router (Attach name e link) one router attach caps elect inject = at
 no_other_of_router (Caps name c) one router attach caps elect inject = caps name c refl
 no_other_of_router (Elect name e letter) one router attach caps elect inject = elect name e letter refl
 no_other_of_router (Inject name e how bytes) one router attach caps elect inject = inject name e how bytes refl
-no_other_of_router line one router attach caps elect inject = false≢true (one_of router_words (line_spelling line).first one)
+no_other_of_router line one router attach caps elect inject = false≢true (one_of router_firsts (line_spelling line).first one)
 
 -- a line of the words of prefixes is one of these
-pub no_other_of_prefix : (line : Line) → IsOneOf prefix_words (line_spelling line).first
+pub no_other_of_prefix : (line : Line) → IsOneOf prefix_firsts (line_spelling line).first
     → ((name : Name) (prefix : PlainPrefix) (valid preferred : ℕ) → line ≢ External name prefix valid preferred)
     → ((name : Name) (prefix : PlainPrefix) → line ≢ Withdraw name prefix) → ((name : Name) (bits : Option ℕ) → line ≢ Private name bits) → ⊥
 no_other_of_prefix (External name prefix valid preferred) one external withdraw private = external name prefix valid preferred refl
 no_other_of_prefix (Withdraw name prefix) one external withdraw private = withdraw name prefix refl
 no_other_of_prefix (Private name bits) one external withdraw private = private name bits refl
-no_other_of_prefix line one external withdraw private = false≢true (one_of prefix_words (line_spelling line).first one)
+no_other_of_prefix line one external withdraw private = false≢true (one_of prefix_firsts (line_spelling line).first one)

@@ -16,7 +16,7 @@ pub use Rattle.hn_prefix.specs.Laws.{PrefixTextIsOfOne}
 pub use Rattle.hn_prefix.specs.PrefixText.{IsPrefixText, prefix_text_of}
 pub use Rattle.hn_script.specs.Entries.{AreLines, FaultFrom, IsEntry, numbered}
 pub use Rattle.hn_script.specs.Fault.{FirstWordFault, IsPlain, IsUnknown, LineFault, TextFault, WordsFault}
-pub use Rattle.hn_script.specs.Field.{Capability, Endpoint, Field, Hex, IsField, IsHexWord, IsInRange, IsNameWord, IsNumberText, Length, Named, Node, Number, Prefixed, Way, field_text, letter_text}
+pub use Rattle.hn_script.specs.Field.{Capability, Endpoint, Field, Hex, IsField, IsHexWord, IsFieldInRange, IsNameWord, IsNumberText, Length, Named, Node, Number, Prefixed, Way, field_text, letter_text}
 pub use Rattle.hn_script.specs.Field.{way_text}
 pub use Rattle.hn_script.specs.FirstWords.{IsNoneOf, IsOneOf}
 pub use Rattle.hn_script.specs.Language.{Gives, Language, SpellsLine}
@@ -26,7 +26,7 @@ pub use Rattle.hn_script.specs.NodeFile.{of_node}
 pub use Rattle.hn_script.specs.Reading.{ReadsFields}
 pub use Rattle.hn_script.specs.Script.{IsScript, ended, first_line}
 pub use Rattle.hn_script.specs.Soak.{chance_texts, link_name, link_texts, report_texts, router_name, router_texts, run_texts, soak_text, up_to, upward_texts}
-pub use Rattle.hn_script.specs.SoakLines.{Adds, IsLineOf}
+pub use Rattle.hn_script.specs.SoakLines.{AddsLines, IsLineOf}
 pub use Rattle.hn_script.specs.Texts.{lines_of, words_of}
 pub use Rattle.hn_script.specs.declared.fault.ScriptFault.{ScriptFault}
 pub use Rattle.hn_script.specs.declared.line.How.{How}

@@ -2,7 +2,7 @@
 use Rattle.hn_base.proofs.Names.{◌≡◌, ℕ, ◌+◌, ◌^◌, ◌<◌, ◌≤◌, true, List, [], ◌∷◌, ◌++◌, length, get_or, take, map, codes, Option, Some, None, refl, sym, ap, ◌∙◌, arith, append_assoc, and_parts}
 use Rattle.hn_base.proofs.Names.{nat_tests, append-nil, map_push, take_more, decimal, AllZip, AllByRecursion, join_with_byte, list_all, id_text, name_text, is_name_byte, IsShortNumeral, Lacks}
 use Rattle.hn_script.proofs.Names.{lower_digits, Letter, M, P, H, L, decimal_is_short, AllByRecursion-append, Lacks-from_fact, prefix_text_of, IsPlain, Field, Named, Node, Endpoint, Number, Prefixed}
-use Rattle.hn_script.proofs.Names.{Capability, Way, Hex, Length, IsField, IsInRange, IsNumberText, field_text, letter_text, way_text, IsPrintable, renumbered, PrintedIsRead, IsEntry, numbered}
+use Rattle.hn_script.proofs.Names.{Capability, Way, Hex, Length, IsField, IsFieldInRange, IsNumberText, field_text, letter_text, way_text, IsPrintable, renumbered, PrintedIsRead, IsEntry, numbered}
 use Rattle.hn_script.proofs.Names.{line_spelling, IsOfVersion, of_version, values_text, line_text, ended, first_line, words_of, lines_of, How, Uni, Multi, Far, Line, Version}
 use Rattle.hex.proofs.HexLemmas.{decode_of-encode_lower, length-encode_with}
 use Rattle.hn_prefix.specs.Laws.{PrefixTextIsRead}
@@ -48,7 +48,7 @@ letter_word P = record { writes = refl; bytes = IsWord-from_letters (codes "P") 
 letter_word H = record { writes = refl; bytes = IsWord-from_letters (codes "H") refl; some = omega arith }
 letter_word L = record { writes = refl; bytes = IsWord-from_letters (codes "L") refl; some = omega arith }
 
-printed_word : PrefixTextIsRead → (field : Field) → IsInRange field → IsWordOf field (field_text field)
+printed_word : PrefixTextIsRead → (field : Field) → IsFieldInRange field → IsWordOf field (field_text field)
 printed_word print (Named name) h = record {
   writes = record { text = refl; room = h };
   bytes = name_bytes (name_text name) name.is_name.name_bytes;
@@ -88,12 +88,12 @@ printed_word print (Length (Some bits)) h =
 AreWords : List (List ℕ) → Type 0
 AreWords words = AllByRecursion (λ word. IsWord word × (0 < length word)) words
 
-printed_words : PrefixTextIsRead → (fields : List Field) → AllByRecursion IsInRange fields → AreWords (map field_text fields)
+printed_words : PrefixTextIsRead → (fields : List Field) → AllByRecursion IsFieldInRange fields → AreWords (map field_text fields)
 unfolding AreWords
 printed_words print [] h = tt
 printed_words print (field ∷ fields) h = let word = printed_word print field h.0 in ((word.bytes, word.some), printed_words print fields h.1)
 
-printed_fields : PrefixTextIsRead → (fields : List Field) → AllByRecursion IsInRange fields → AllZip IsField fields (map field_text fields)
+printed_fields : PrefixTextIsRead → (fields : List Field) → AllByRecursion IsFieldInRange fields → AllZip IsField fields (map field_text fields)
 printed_fields print [] h = tt
 printed_fields print (field ∷ fields) h = ((printed_word print field h.0).writes, printed_fields print fields h.1)
 

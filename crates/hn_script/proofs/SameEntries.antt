@@ -3,7 +3,7 @@ use Rattle.hn_base.proofs.Names.{◌≡◌, ℕ, ◌+◌, List, [], ◌∷◌, O
 use Rattle.hn_script.proofs.Names.{IsEntry, FaultFrom, IsUnknown, TextFault, WordsFault, LineFault, Language, SpellsLine, Gives, words_of, lines_of, ScriptFault}
 use Rattle.hn_base.proofs.FirstCause.{one_cause}
 use Rattle.hn_script.specs.Entries.{BytesFault}
-use Rattle.hn_script.specs.Fault.{IsMiscounted, IsMalformed}
+use Rattle.hn_script.specs.Fault.{IsMiscounted, IsMalformedLine}
 use Rattle.hn_script.proofs.Entries.{no_line_fault}
 
 -- words spell one line
@@ -55,7 +55,7 @@ sole_else Broken code further sole a b h k = one_cause Broken code further a b (
 sole_words : {A : Type 0} (language : Language A) (words : List (List ℕ)) → IsSole (WordsFault language words)
 sole_words language [] a b h k = absurd h
 sole_words language (word ∷ words) a b h k =
-    sole_else (IsUnknown language word) 2 _ (sole_else (IsMiscounted language word words) 3 _ (sole_else (IsMalformed language (word ∷ words)) 4 NoCause sole_none)) a b h.1 k.1
+    sole_else (IsUnknown language word) 2 _ (sole_else (IsMiscounted language word words) 3 _ (sole_else (IsMalformedLine language (word ∷ words)) 4 NoCause sole_none)) a b h.1 k.1
 
 pub sole_text : (text : List ℕ) (further : ℕ → Type 0) → IsSole further → IsSole (TextFault text further)
 sole_text text further sole = sole_else _ 5 _ (sole_else _ 6 further sole)

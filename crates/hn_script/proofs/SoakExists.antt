@@ -1,7 +1,7 @@
 -- Each text of a soak is a script.
 use Rattle.hn_base.proofs.Names.{◌≡◌, ℕ, zero, suc, ◌-◌, ◌/◌, ◌^◌, ◌<◌, List, [], ◌∷◌, ◌++◌, length, replicate, refl, sym, subst, inl, inr, arith, length-append, ◌⊎◌, ◌≢◌, length-replicate}
 use Rattle.hn_base.proofs.Names.{take-append_seam, drop-append_seam, IsNameText}
-use Rattle.hn_script.proofs.Names.{Name, IsNameWord, PrintedIsRead, router_name, link_name, up_to, upward_texts, Adds, Line, Router, Link, Attach, External, Seed, Loss, Run}
+use Rattle.hn_script.proofs.Names.{Name, IsNameWord, PrintedIsRead, router_name, link_name, up_to, upward_texts, AddsLines, Line, Router, Link, Attach, External, Seed, Loss, Run}
 use Rattle.hn_script.specs.Laws.{SoakIsAScript}
 use Rattle.hn_script.specs.Soak.{chance_texts, link_texts, router_texts, run_texts, report_texts}
 use Rattle.hn_script.proofs.SoakScripts.{soak_so, adds_all}
@@ -31,7 +31,7 @@ link_named k small = name_of (link_name k) (numbered_name 108 k small refl)
 
 -- lines of these texts can be added
 CanAdd : List (List ℕ) → Type 0
-CanAdd texts = (before : List Line) → (after : List Line) × Adds texts before after
+CanAdd texts = (before : List Line) → (after : List Line) × AddsLines texts before after
 
 chance : (seed : ℕ) → seed < 2 ^ 64 → CanAdd (chance_texts seed)
 unfolding CanAdd chance_texts

@@ -1,7 +1,7 @@
 -- The lines of the script of a soak, numbered from 2, are the script.
 use Rattle.hn_base.proofs.Names.{◌≡◌, ℕ, zero, suc, ◌+◌, ◌*◌, ◌/◌, ◌≤◌, Bool, true, false, cond, List, [], ◌∷◌, ◌++◌, length, map, codes, Some, refl, sym, ap, subst, ◌∙◌, arith, length-append}
 use Rattle.hn_base.proofs.Names.{AllZip-long, ◌==◌, AllZip, AllByRecursion, id_text}
-use Rattle.hn_script.proofs.Names.{IsPrintable, PrintedIsRead, renumbered, numbered, IsOfVersion, line_text, IsScript, ended, first_line, router_name, link_name, up_to, IsLineOf, Adds, Line, Script}
+use Rattle.hn_script.proofs.Names.{IsPrintable, PrintedIsRead, renumbered, numbered, IsOfVersion, line_text, IsScript, ended, first_line, router_name, link_name, up_to, IsLineOf, AddsLines, Line, Script}
 use Rattle.hn_script.proofs.Names.{One}
 use Rattle.hn_script.specs.Entries.{most_bytes}
 use Rattle.hn_script.specs.Script.{script_text}
@@ -98,7 +98,7 @@ script_so read texts lines h few =
     (subst (λ (found : List (ℕ × Line)). IsScript (record { version = One; lines = found }) (script_text script)) (numbered_again 2 lines) is)
 
 -- what is added to no lines, numbered from 2, is the script
-pub soak_so : PrintedIsRead → (n seed : ℕ) (none lines : List Line) → n ≤ 32 → none ≡ [] → Adds (soak_texts n seed) none lines
+pub soak_so : PrintedIsRead → (n seed : ℕ) (none lines : List Line) → n ≤ 32 → none ≡ [] → AddsLines (soak_texts n seed) none lines
     → IsScript (record { version = One; lines = numbered 2 (map Some lines) }) (soak_text n seed)
 unfolding soak_text
 soak_so read n seed none lines small empty h =
@@ -106,7 +106,7 @@ soak_so read n seed none lines small empty h =
     script_so read (soak_texts n seed) lines (subst (λ (found : List Line). AllZip IsLineOf found (soak_texts n seed)) (sym all) h.lines) (soak_count n seed small)
 
 -- it has few lines
-pub soak_few : (n seed : ℕ) (none lines : List Line) → n ≤ 32 → none ≡ [] → Adds (soak_texts n seed) none lines → length lines ≤ 1000
+pub soak_few : (n seed : ℕ) (none lines : List Line) → n ≤ 32 → none ≡ [] → AddsLines (soak_texts n seed) none lines → length lines ≤ 1000
 soak_few n seed none lines small empty h =
     let count = soak_count n seed small in
     let long : length (soak_texts n seed) ≡ length h.more = AllZip-long IsLineOf h.more (soak_texts n seed) h.lines in
@@ -114,8 +114,9 @@ soak_few n seed none lines small empty h =
     omega arith
 
 -- what the parts add, the whole adds
-pub adds_all : (n seed : ℕ) (a b c d e f : List Line) → Adds (chance_texts seed) a b → Adds (up_to n link_texts) b c → Adds (up_to n router_texts) c d → Adds run_texts d e → Adds (report_texts n) e f
-    → Adds (soak_texts n seed) a f
+pub adds_all : (n seed : ℕ) (a b c d e f : List Line) → AddsLines (chance_texts seed) a b → AddsLines (up_to n link_texts) b c → AddsLines (up_to n router_texts) c d
+    → AddsLines run_texts d e → AddsLines (report_texts n) e f
+    → AddsLines (soak_texts n seed) a f
 unfolding soak_texts
 adds_all n seed a b c d e f chance links routers run reports =
     adds_both _ _ a e f (adds_both _ _ a d e (adds_both _ _ a c d (adds_both _ _ a b c chance links) routers) run) reports

@@ -2,8 +2,8 @@
 use Rattle.hn_base.proofs.Names.{◌≡◌, ◌≢◌, ℕ, ◌+◌, ◌*◌, ◌/◌, ◌^◌, ◌-◌, ◌<◌, ◌≤◌, true, List, [], ◌∷◌, ◌++◌, length, map, codes, refl, sym, ap, subst, ◌∙◌, arith, append_assoc, add-one, lit<, lit≤}
 use Rattle.hn_base.proofs.Names.{append-nil, length-append, ne_eqb, nat_tests, digit_value, decimal, AllZip, AllByRecursion, join_with_byte, list_all, AllDigits, id_text, name_text, IsNameText}
 use Rattle.hn_base.proofs.Names.{is_name_byte, PlainPrefix, IsPrefix}
-use Rattle.hn_script.proofs.Names.{Name, decimal_is_short, Field, Named, Node, Endpoint, Number, Prefixed, IsInRange, IsNameWord, field_text, One, line_spelling, IsOfVersion, line_text, router_name}
-use Rattle.hn_script.proofs.Names.{link_name, up_to, IsLineOf, Adds, Line, Router, Link, Attach, External, Seed, Loss, Run, Used, Prefixes, Audit, Show, Compare, Mail}
+use Rattle.hn_script.proofs.Names.{Name, decimal_is_short, Field, Named, Node, Endpoint, Number, Prefixed, IsFieldInRange, IsNameWord, field_text, One, line_spelling, IsOfVersion, line_text, router_name}
+use Rattle.hn_script.proofs.Names.{link_name, up_to, IsLineOf, AddsLines, Line, Router, Link, Attach, External, Seed, Loss, Run, Used, Prefixes, Audit, Show, Compare, Mail}
 use Rattle.std.specs.Char.{is_ascii_alphabetic}
 use Rattle.std.specs.Fmt.{digits}
 use Rattle.std.specs.Net.Text.{hex_groups_text, hex}
@@ -44,7 +44,7 @@ first_name name h = h
 -- ---- short words
 
 record IsShort (field : Field) : Type 0 where
-  in_range : IsInRange field
+  in_range : IsFieldInRange field
   short : length (field_text field) ≤ 64
 
 short_name : (name : Name) (word : List ℕ) → IsNameWord name word → IsShort (Named name)
@@ -63,7 +63,7 @@ short_endpoint e low small =
     let read = decimal_is_short 20 e (omega arith) (omega arith) (omega arith) in
     record { in_range = (low, omega arith); short = let short = read.short in omega arith }
 
-in_range_of : (fields : List Field) → AllByRecursion IsShort fields → AllByRecursion IsInRange fields
+in_range_of : (fields : List Field) → AllByRecursion IsShort fields → AllByRecursion IsFieldInRange fields
 in_range_of [] h = tt
 in_range_of (field ∷ fields) h = (h.0.in_range, in_range_of fields h.1)
 
@@ -177,11 +177,11 @@ AllZip-append R (x ∷ xs) more [] others h k = absurd h
 AllZip-append R (x ∷ xs) more (y ∷ ys) others h k = (h.0, AllZip-append R xs more ys others h.1 k)
 
 -- nothing is added
-pub adds_none : (lines : List Line) → Adds [] lines lines
+pub adds_none : (lines : List Line) → AddsLines [] lines lines
 adds_none lines = record { more = []; added = sym (append-nil lines); lines = tt }
 
 -- some lines, and then others
-pub adds_both : (texts others : List (List ℕ)) (before between after : List Line) → Adds texts before between → Adds others between after → Adds (texts ++ others) before after
+pub adds_both : (texts others : List (List ℕ)) (before between after : List Line) → AddsLines texts before between → AddsLines others between after → AddsLines (texts ++ others) before after
 adds_both texts others before between after h k = record {
   more = h.more ++ k.more;
   added = k.added ∙ ap (λ (lines : List Line). lines ++ k.more) h.added ∙ append_assoc before h.more k.more;
@@ -189,12 +189,12 @@ adds_both texts others before between after h k = record {
 }
 
 -- one line
-pub adds_one : (text : List ℕ) (before after : List Line) (line : Line) → IsLineOf line text → after ≡ before ++ line ∷ [] → Adds (text ∷ []) before after
+pub adds_one : (text : List ℕ) (before after : List Line) (line : Line) → IsLineOf line text → after ≡ before ++ line ∷ [] → AddsLines (text ∷ []) before after
 adds_one text before after line h is = record { more = line ∷ []; added = is; lines = (h, tt) }
 
 -- some lines, and then one
-pub adds_then : (texts : List (List ℕ)) (text : List ℕ) (before between after : List Line) (line : Line) → Adds texts before between
-    → IsLineOf line text → after ≡ between ++ line ∷ [] → Adds (texts ++ text ∷ []) before after
+pub adds_then : (texts : List (List ℕ)) (text : List ℕ) (before between after : List Line) (line : Line) → AddsLines texts before between
+    → IsLineOf line text → after ≡ between ++ line ∷ [] → AddsLines (texts ++ text ∷ []) before after
 adds_then texts text before between after line h is added =
     adds_both texts (text ∷ []) before between after h (adds_one text between after line is added)
 
@@ -202,22 +202,23 @@ adds_then texts text before between after line h is added =
 pub up_to-more : (n : ℕ) (texts : ℕ → List (List ℕ)) → up_to (n + 1) texts ≡ up_to n texts ++ texts (n + 1)
 up_to-more n texts = rw add-one refl
 
-pub adds_more : (n : ℕ) (texts : ℕ → List (List ℕ)) (before between after : List Line) → Adds (up_to n texts) before between
-    → Adds (texts (n + 1)) between after → Adds (up_to (n + 1) texts) before after
+pub adds_more : (n : ℕ) (texts : ℕ → List (List ℕ)) (before between after : List Line) → AddsLines (up_to n texts) before between
+    → AddsLines (texts (n + 1)) between after → AddsLines (up_to (n + 1) texts) before after
 adds_more n texts before between after h k =
-    subst (λ (found : List (List ℕ)). Adds found before after) (sym (up_to-more n texts)) (adds_both (up_to n texts) (texts (n + 1)) before between after h k)
+    subst (λ (found : List (List ℕ)). AddsLines found before after) (sym (up_to-more n texts)) (adds_both (up_to n texts) (texts (n + 1)) before between after h k)
 
 -- the last number is reached
-pub adds_end : (k n : ℕ) (texts : ℕ → List (List ℕ)) (before after : List Line) → k ≤ n → n ≤ k → Adds (up_to k texts) before after → Adds (up_to n texts) before after
+pub adds_end : (k n : ℕ) (texts : ℕ → List (List ℕ)) (before after : List Line) → k ≤ n → n ≤ k → AddsLines (up_to k texts) before after → AddsLines (up_to n texts) before after
 adds_end k n texts before after low high h =
     let last : k ≡ n = omega arith in
-    subst (λ (number : ℕ). Adds (up_to number texts) before after) last h
+    subst (λ (number : ℕ). AddsLines (up_to number texts) before after) last h
 
 -- the first router has no endpoint 1, and each other has one
-pub adds_no_upward : (k : ℕ) (lines : List Line) → k ≡ 1 → Adds (upward_texts k) lines lines
+pub adds_no_upward : (k : ℕ) (lines : List Line) → k ≡ 1 → AddsLines (upward_texts k) lines lines
 unfolding upward_texts
-adds_no_upward k lines is = subst (λ (number : ℕ). Adds (upward_texts number) lines lines) (sym is) (adds_none lines)
+adds_no_upward k lines is = subst (λ (number : ℕ). AddsLines (upward_texts number) lines lines) (sym is) (adds_none lines)
 
-pub adds_upward : (k : ℕ) (before after : List Line) → k ≢ 1 → Adds ((codes "attach " ++ router_name k ++ codes " 1 " ++ link_name (k / 2)) ∷ []) before after → Adds (upward_texts k) before after
+pub adds_upward : (k : ℕ) (before after : List Line) → k ≢ 1 → AddsLines ((codes "attach " ++ router_name k ++ codes " 1 " ++ link_name (k / 2)) ∷ []) before after
+    → AddsLines (upward_texts k) before after
 unfolding upward_texts
 adds_upward k before after is_not h = rw (ne_eqb k 1 is_not) h

@@ -2,7 +2,7 @@
 use Rattle.hn_base.proofs.Names.{◌≡◌, ◌⊎◌, ℕ, Bool, true, false, not, List, Result, Ok, Err, MatchBool, inl, inr, refl, sym, subst, false≢true}
 use Rattle.hn_script.proofs.Names.{Version, One, IsUnknown, FirstWordFault, IsOneOf, IsNoneOf, line_spelling, IsOfVersion, every_line, of_version, Line, Private, Sync, Address, Addresses, Addressed}
 use Rattle.hn_script.proofs.Names.{Ula, Ulas, Radv, Solicit}
-use Rattle.hn_script.specs.FirstWords.{later_words}
+use Rattle.hn_script.specs.FirstWords.{later_firsts}
 use Rattle.hn_script.specs.Reading.{ReadsDraft, AreOfVersion}
 use Rattle.hn_script.specs.declared.draft.Draft.{Draft}
 use Rattle.hn_script.proofs.LineWords.{is_one_of, one_of, none_of}
@@ -35,7 +35,7 @@ draft_of_version version word words are (Err code) reads = fault_of_version vers
 -- ---- the words of version 2 alone
 
 -- a line is of version 1, or begins with a word of version 2 alone
-either : (line : Line) → (is_one_of later_words (line_spelling line).first ≡ true) ⊎ IsOfVersion One line
+either : (line : Line) → (is_one_of later_firsts (line_spelling line).first ≡ true) ⊎ IsOfVersion One line
 either (Private name bits) = inl refl
 either (Address name) = inl refl
 either (Addresses name) = inl refl
@@ -48,7 +48,7 @@ either (Solicit name e) = inl refl
 either _ = inr tt
 
 -- and never both
-not_both : (line : Line) → is_one_of later_words (line_spelling line).first ≡ true → IsOfVersion One line → ⊥
+not_both : (line : Line) → is_one_of later_firsts (line_spelling line).first ≡ true → IsOfVersion One line → ⊥
 not_both (Private name bits) later of = of
 not_both (Address name) later of = of
 not_both (Addresses name) later of = of
@@ -61,10 +61,10 @@ not_both (Solicit name e) later of = of
 not_both _ later of = false≢true later
 
 -- so a word is of version 1 where it is none of these, and else unknown in it
-pub of_one : (word : List ℕ) (later : Bool) → MatchBool later (IsOneOf later_words word) (IsNoneOf later_words word)
+pub of_one : (word : List ℕ) (later : Bool) → MatchBool later (IsOneOf later_firsts word) (IsNoneOf later_firsts word)
     → MatchBool (not later) (AreOfVersion One word) (IsUnknown (of_version One) word)
-of_one word true one = λ line of e. not_both line (subst (λ first. is_one_of later_words first ≡ true) (sym e) (one_of later_words word one)) of
+of_one word true one = λ line of e. not_both line (subst (λ first. is_one_of later_firsts first ≡ true) (sym e) (one_of later_firsts word one)) of
 of_one word false none = λ line e. elim (either line) [
-  | inl later ↦ absurd (none_of later_words (line_spelling line).first word later none e)
+  | inl later ↦ absurd (none_of later_firsts (line_spelling line).first word later none e)
   | inr of ↦ of
 ]

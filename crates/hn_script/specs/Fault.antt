@@ -23,14 +23,14 @@ IsMiscounted {A} language word words =
     (line : A) → language.has line → (language.spelling line).first ≡ word → length (language.spelling line).fields ≢ length words
 
 -- 4: no line has these words
-abbrev pub IsMalformed : {A : Type 0} → Language A → List (List ℕ) → Type 0
-IsMalformed {A} language words = (line : A) → ¬ SpellsLine language line words
+abbrev pub IsMalformedLine : {A : Type 0} → Language A → List (List ℕ) → Type 0
+IsMalformedLine {A} language words = (line : A) → ¬ SpellsLine language line words
 
 -- 2 to 4: what is wrong with a first word and the words after it
 abbrev pub FirstWordFault : {A : Type 0} → Language A → List ℕ → List (List ℕ) → ℕ → Type 0
 FirstWordFault language word words =
     OnCause (IsUnknown language word) 2
-    (OnCause (IsMiscounted language word words) 3 (OnCause (IsMalformed language (word ∷ words)) 4 NoCause))
+    (OnCause (IsMiscounted language word words) 3 (OnCause (IsMalformedLine language (word ∷ words)) 4 NoCause))
 
 -- what is wrong with the words of a line: nothing where it is skipped
 abbrev pub WordsFault : {A : Type 0} → Language A → List (List ℕ) → ℕ → Type 0

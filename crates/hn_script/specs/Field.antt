@@ -91,14 +91,14 @@ field_text (Length None) = codes "off"
 field_text (Length (Some bits)) = decimal bits
 
 -- the value is in its range
-abbrev pub IsInRange : Field → Type 0
-IsInRange (Named name) = length name.bytes ≡ 16
-IsInRange (Node id) = id.0 < 2 ^ 32
-IsInRange (Endpoint e) = (1 ≤ e.0) × (e.0 ≤ last_endpoint)
-IsInRange (Number lowest highest n) = (lowest ≤ n) × (n ≤ highest) × (n < 2 ^ 64)
-IsInRange (Prefixed prefix) = IsPrefix prefix
-IsInRange (Capability letter) = Unit {0}
-IsInRange (Way how) = Unit {0}
-IsInRange (Hex bytes) = IsBytes bytes
-IsInRange (Length None) = Unit {0}
-IsInRange (Length (Some bits)) = (1 ≤ bits) × (bits ≤ longest_link)
+abbrev pub IsFieldInRange : Field → Type 0
+IsFieldInRange (Named name) = length name.bytes ≡ 16
+IsFieldInRange (Node id) = id.0 < 2 ^ 32
+IsFieldInRange (Endpoint e) = (1 ≤ e.0) × (e.0 ≤ last_endpoint)
+IsFieldInRange (Number lowest highest n) = (lowest ≤ n) × (n ≤ highest) × (n < 2 ^ 64)
+IsFieldInRange (Prefixed prefix) = IsPrefix prefix
+IsFieldInRange (Capability letter) = Unit {0}
+IsFieldInRange (Way how) = Unit {0}
+IsFieldInRange (Hex bytes) = IsBytes bytes
+IsFieldInRange (Length None) = Unit {0}
+IsFieldInRange (Length (Some bits)) = (1 ≤ bits) × (bits ≤ longest_link)

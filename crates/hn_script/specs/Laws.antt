@@ -3,7 +3,7 @@ use Rattle.std.specs.Prelude.{◌≡◌, ℕ, ◌+◌, ◌^◌, ◌<◌, ◌≤�
 use Rattle.std.specs.List.{AllByRecursion}
 use Rattle.hn_base.specs.Byte.{IsByte}
 use Rattle.hn_base.specs.Prefix.{IsPrefix}
-use Rattle.hn_script.specs.Field.{IsInRange}
+use Rattle.hn_script.specs.Field.{IsFieldInRange}
 use Rattle.hn_script.specs.Entries.{most_bytes}
 use Rattle.hn_script.specs.Line.{line_spelling, IsOfVersion, line_text}
 use Rattle.hn_script.specs.NodeFile.{IsNodeFile, IsFirstNodeFault}
@@ -38,7 +38,7 @@ LinesAreOfVersion = (bytes : List ℕ) (script : Script) → IsScript script byt
 
 -- a line with its values in their ranges, of at most 16,384 bytes when it is printed
 pub record IsPrintable (line : Line) : Type 0 where
-  pub in_range : AllByRecursion IsInRange (line_spelling line).fields
+  pub in_range : AllByRecursion IsFieldInRange (line_spelling line).fields
   pub short : length (line_text line) ≤ 16384
 
 -- the same lines, numbered one by one from n on

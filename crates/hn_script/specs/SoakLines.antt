@@ -13,7 +13,7 @@ pub record IsLineOf (line : Line) (text : List ℕ) : Type 0 where
   pub text_is : line_text line ≡ text
 
 -- lines of these texts are added
-pub record Adds (texts : List (List ℕ)) (before after : List Line) : Type 0 where
+pub record AddsLines (texts : List (List ℕ)) (before after : List Line) : Type 0 where
   pub more : List Line
   pub added : after ≡ before ++ more
   pub lines : AllZip IsLineOf more texts

@@ -1,7 +1,7 @@
 ghost use Rattle.std.specs.Prelude.{◌≡◌};
 ghost use Rattle.std.specs.Fmt.{WritesOnOk};
 ghost use Rattle.hn_script.specs.Field.{letter_text};
-ghost use Rattle.hn_script.specs.FirstWords.{IsOneOf, router_words, prefix_words};
+ghost use Rattle.hn_script.specs.FirstWords.{IsOneOf, router_firsts, prefix_firsts};
 ghost use Rattle.hn_script.specs.Line.{line_spelling, values_text};
 
 use hn_base::{Bytes, Caps, EpId, Hex, Letter, LinkLength, Moment, Name, NodeId};
@@ -210,7 +210,7 @@ impl Line {
 
     /// The same, of a line with a node, an endpoint and more, or capabilities.
     fn write_of_router<W: fmt::Write>(&self, f: &mut fmt::Formatter<W>) -> fmt::Result
-        requires { IsOneOf router_words (line_spelling self.now).first }
+        requires { IsOneOf router_firsts (line_spelling self.now).first }
         ensures { WritesOnOk W.Write.write_str_gives f.old result (values_text (line_spelling self.now).fields) f.new }
     {
         match self {
@@ -231,7 +231,7 @@ impl Line {
 
     /// The same, of a line with a prefix or the length of one.
     fn write_of_prefix<W: fmt::Write>(&self, f: &mut fmt::Formatter<W>) -> fmt::Result
-        requires { IsOneOf prefix_words (line_spelling self.now).first }
+        requires { IsOneOf prefix_firsts (line_spelling self.now).first }
         ensures { WritesOnOk W.Write.write_str_gives f.old result (values_text (line_spelling self.now).fields) f.new }
     {
         match self {

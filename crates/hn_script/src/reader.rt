@@ -3,7 +3,7 @@
 ghost use Rattle.std.specs.Prelude.{◌≡◌, ◌≢◌, ◌<◌, ◌≤◌, ◌∷◌, ◌++◌, length, codes, Option, MatchResult, IfSome, IfNone};
 ghost use Rattle.hn_script.specs.Fault.{IsPlain, TextFault, LineFault};
 ghost use Rattle.hn_script.specs.Entries.{IsEntry};
-ghost use Rattle.hn_script.specs.FirstWords.{IsOneOf, IsNoneOf, shared_words, name_words, endpoint_words, number_words, pair_words, lone_words, router_words, prefix_words};
+ghost use Rattle.hn_script.specs.FirstWords.{IsOneOf, IsNoneOf, shared_firsts, name_firsts, endpoint_firsts, number_firsts, pair_firsts, lone_firsts, router_firsts, prefix_firsts};
 ghost use Rattle.hn_script.specs.Line.{every_line, of_version};
 ghost use Rattle.hn_script.specs.Reading.{ReadsLine, ReadsDraft, ReadsText};
 ghost use Rattle.hn_script.specs.Texts.{words_of};
@@ -28,7 +28,7 @@ const MOST_BYTES: usize = 16_384;
 
 /// The line of a first word that has a name after it, and the words in `rest`.
 fn read_named(word: &str, rest: &[u8]) -> Result<Line, u8>
-    requires { IsOneOf name_words word.now }
+    requires { IsOneOf name_firsts word.now }
     ensures { ReadsLine every_line word.now (words_of rest.now) result }
 {
     let name = one_name(rest)?;
@@ -52,7 +52,7 @@ fn read_named(word: &str, rest: &[u8]) -> Result<Line, u8>
 
 /// The line of a first word that has a name and an endpoint after it, and the words in `rest`.
 fn read_endpoint(word: &str, rest: &[u8]) -> Result<Line, u8>
-    requires { IsOneOf endpoint_words word.now }
+    requires { IsOneOf endpoint_firsts word.now }
     ensures { ReadsLine every_line word.now (words_of rest.now) result }
 {
     let (name, endpoint) = name_and_endpoint(rest)?;
@@ -66,7 +66,7 @@ fn read_endpoint(word: &str, rest: &[u8]) -> Result<Line, u8>
 
 /// The line of a first word that has a number after it, and the words in `rest`.
 fn read_number(word: &str, rest: &[u8]) -> Result<Line, u8>
-    requires { IsOneOf number_words word.now }
+    requires { IsOneOf number_firsts word.now }
     ensures { ReadsLine every_line word.now (words_of rest.now) result }
 {
     let number = any_number(rest)?;
@@ -79,7 +79,7 @@ fn read_number(word: &str, rest: &[u8]) -> Result<Line, u8>
 
 /// The line of a first word that has two names after it, and the words in `rest`.
 fn read_pair(word: &str, rest: &[u8]) -> Result<Line, u8>
-    requires { IsOneOf pair_words word.now }
+    requires { IsOneOf pair_firsts word.now }
     ensures { ReadsLine every_line word.now (words_of rest.now) result }
 {
     let (left, right) = two_names(rest)?;
@@ -91,7 +91,7 @@ fn read_pair(word: &str, rest: &[u8]) -> Result<Line, u8>
 
 /// The line of a first word that has nothing after it, and the words in `rest`.
 fn read_lone(word: &str, rest: &[u8]) -> Result<Line, u8>
-    requires { IsOneOf lone_words word.now }
+    requires { IsOneOf lone_firsts word.now }
     ensures { ReadsLine every_line word.now (words_of rest.now) result }
 {
     nothing(rest)?;
@@ -103,7 +103,7 @@ fn read_lone(word: &str, rest: &[u8]) -> Result<Line, u8>
 
 /// The line of a first word that no other line shares its values with, unless the word is `inject`.
 fn read_sole(word: &str, rest: &[u8]) -> Result<Line, u8>
-    requires { IsNoneOf (codes "inject" ∷ shared_words) word.now }
+    requires { IsNoneOf (codes "inject" ∷ shared_firsts) word.now }
     ensures { ReadsLine every_line word.now (words_of rest.now) result }
 {
     match word {
@@ -129,7 +129,7 @@ fn read_sole(word: &str, rest: &[u8]) -> Result<Line, u8>
 
 /// The same, where the word is none of those either: with a prefix or the length of one after it, or with numbers.
 fn read_prefixed(word: &str, rest: &[u8]) -> Result<Line, u8>
-    requires { IsNoneOf (router_words ++ shared_words) word.now }
+    requires { IsNoneOf (router_firsts ++ shared_firsts) word.now }
     ensures { ReadsLine every_line word.now (words_of rest.now) result }
 {
     match word {
@@ -151,7 +151,7 @@ fn read_prefixed(word: &str, rest: &[u8]) -> Result<Line, u8>
 
 /// The same, where the word is none of those either: with numbers in a range after it.
 fn read_ranged(word: &str, rest: &[u8]) -> Result<Line, u8>
-    requires { IsNoneOf (prefix_words ++ router_words ++ shared_words) word.now }
+    requires { IsNoneOf (prefix_firsts ++ router_firsts ++ shared_firsts) word.now }
     ensures { ReadsLine every_line word.now (words_of rest.now) result }
 {
     match word {
@@ -167,7 +167,7 @@ fn read_ranged(word: &str, rest: &[u8]) -> Result<Line, u8>
 
 /// The line of a first word that has no name alone after it, and the words in `rest`, unless the word is `inject`.
 fn read_unnamed(word: &str, rest: &[u8]) -> Result<Line, u8>
-    requires { IsNoneOf (codes "inject" ∷ name_words) word.now }
+    requires { IsNoneOf (codes "inject" ∷ name_firsts) word.now }
     ensures { ReadsLine every_line word.now (words_of rest.now) result }
 {
     match word {

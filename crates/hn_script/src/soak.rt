@@ -6,7 +6,7 @@ ghost use Rattle.hn_script.specs.Field.{IsNameWord};
 ghost use Rattle.hn_script.specs.Entries.{numbered};
 ghost use Rattle.hn_script.specs.Script.{IsScript};
 ghost use Rattle.hn_script.specs.Soak.{router_name, link_name, up_to, chance_texts, link_texts, upward_texts, router_texts, run_texts, report_texts, soak_text};
-ghost use Rattle.hn_script.specs.SoakLines.{Adds};
+ghost use Rattle.hn_script.specs.SoakLines.{AddsLines};
 
 use crate::laws::printed_is_read;
 use crate::line::Line;
@@ -54,7 +54,7 @@ fn delegated() -> Prefix
 
 /// Adds the lines on chance: the seed, and of a hundred copies how many are lost.
 fn add_chance(lines: &mut Sequence<Line>, seed: u64) -> Result<(), NoMemory>
-    ensures { OnOk result (Adds (chance_texts seed) lines.old lines.new) }
+    ensures { OnOk result (AddsLines (chance_texts seed) lines.old lines.new) }
 {
     lines.push(Line::Seed(seed))?;
     lines.push(Line::Loss(10))
@@ -63,7 +63,7 @@ fn add_chance(lines: &mut Sequence<Line>, seed: u64) -> Result<(), NoMemory>
 /// Adds the links.
 fn add_links(alloc: Global, lines: &mut Sequence<Line>, n: u32) -> Result<(), NoMemory>
     requires { n ≤ 32 }
-    ensures { OnOk result (Adds (up_to n link_texts) lines.old lines.new) }
+    ensures { OnOk result (AddsLines (up_to n link_texts) lines.old lines.new) }
 {
     for k in 0..n {
         let name = link_name(alloc, k + 1)?;
@@ -75,7 +75,7 @@ fn add_links(alloc: Global, lines: &mut Sequence<Line>, n: u32) -> Result<(), No
 /// Adds endpoint 1 of a router, unless it is the first.
 fn add_upward(alloc: Global, lines: &mut Sequence<Line>, name: Name, k: u32) -> Result<(), NoMemory>
     requires { IsNameWord name (router_name k) }
-    ensures { OnOk result (Adds (upward_texts k) lines.old lines.new) }
+    ensures { OnOk result (AddsLines (upward_texts k) lines.old lines.new) }
 {
     if k == 1 {
         return Ok(());
@@ -86,7 +86,7 @@ fn add_upward(alloc: Global, lines: &mut Sequence<Line>, name: Name, k: u32) -> 
 
 /// Adds a router, with its endpoints.
 fn add_router(alloc: Global, lines: &mut Sequence<Line>, k: u32) -> Result<(), NoMemory>
-    ensures { OnOk result (Adds (router_texts k) lines.old lines.new) }
+    ensures { OnOk result (AddsLines (router_texts k) lines.old lines.new) }
 {
     let name = router_name(alloc, k)?;
     let link = link_name(alloc, k)?;
@@ -98,7 +98,7 @@ fn add_router(alloc: Global, lines: &mut Sequence<Line>, k: u32) -> Result<(), N
 /// Adds the routers.
 fn add_routers(alloc: Global, lines: &mut Sequence<Line>, n: u32) -> Result<(), NoMemory>
     requires { n ≤ 32 }
-    ensures { OnOk result (Adds (up_to n router_texts) lines.old lines.new) }
+    ensures { OnOk result (AddsLines (up_to n router_texts) lines.old lines.new) }
 {
     for k in 0..n {
         add_router(alloc, lines, k + 1)?;
@@ -108,7 +108,7 @@ fn add_routers(alloc: Global, lines: &mut Sequence<Line>, n: u32) -> Result<(), 
 
 /// Adds the uplink of the first router, and the run.
 fn add_run(alloc: Global, lines: &mut Sequence<Line>) -> Result<(), NoMemory>
-    ensures { OnOk result (Adds run_texts lines.old lines.new) }
+    ensures { OnOk result (AddsLines run_texts lines.old lines.new) }
 {
     let first = router_name(alloc, 1)?;
     lines.push(Line::External(first, delegated(), 7200, 3600))?;
@@ -117,7 +117,7 @@ fn add_run(alloc: Global, lines: &mut Sequence<Line>) -> Result<(), NoMemory>
 
 /// Adds the reports on the first router and the last.
 fn add_reports(alloc: Global, lines: &mut Sequence<Line>, n: u32) -> Result<(), NoMemory>
-    ensures { OnOk result (Adds (report_texts n) lines.old lines.new) }
+    ensures { OnOk result (AddsLines (report_texts n) lines.old lines.new) }
 {
     let first = router_name(alloc, 1)?;
     let last = router_name(alloc, n)?;

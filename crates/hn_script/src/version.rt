@@ -3,7 +3,7 @@
 ghost use Rattle.std.specs.Prelude.{◌≡◌, ◌≢◌, MatchBool, IfSome, IfNone};
 ghost use Rattle.hn_base.specs.declared.version.Version.{Version};
 ghost use Rattle.hn_script.specs.Fault.{IsUnknown};
-ghost use Rattle.hn_script.specs.FirstWords.{IsOneOf, IsNoneOf, later_words};
+ghost use Rattle.hn_script.specs.FirstWords.{IsOneOf, IsNoneOf, later_firsts};
 ghost use Rattle.hn_script.specs.Line.{of_version};
 ghost use Rattle.hn_script.specs.Reading.{AreOfVersion};
 ghost use Rattle.hn_script.specs.Script.{first_line};
@@ -33,7 +33,7 @@ pub(crate) fn version_of(text: &[u8]) -> Option<Version>
 
 /// Whether this is a first word of version 2 alone.
 fn is_later(word: &str) -> bool
-    ensures { MatchBool result (IsOneOf later_words word.now) (IsNoneOf later_words word.now) }
+    ensures { MatchBool result (IsOneOf later_firsts word.now) (IsNoneOf later_firsts word.now) }
 {
     matches!(
         word,

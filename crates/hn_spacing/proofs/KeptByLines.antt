@@ -1,7 +1,7 @@
 -- The lines of a script keep what stays over turns and other lines, and so does a play.
 use Rattle.hn_base.proofs.Names.{◌≡◌, ◌∙◌, inl, inr, ℕ, false, List, [], ◌∷◌, ◌++◌, Option, None, Some, refl, sym, ap, subst, AllByRecursion}
 use Rattle.hn_spacing.proofs.Names.{Name, Note, Line, WEvent, Parts, Stop, Refused, WireFailed, Cut, EventNotes, EventEnds, DeliveryEnds, LinesDone, StopsAt, Unless, ThenProcess, Solicits, starting}
-use Rattle.hn_spacing.proofs.Names.{ending, ending_all, Stage, TellsLines}
+use Rattle.hn_spacing.proofs.Names.{ended_sending, ending_all, Stage, TellsLines}
 use Rattle.hn_addr.specs.Addresses.{IsChoice}
 use Rattle.hn_script.specs.declared.line.Line.TheVariants as line
 use Rattle.hn_ula.specs.Ula.{Decides}
@@ -96,7 +96,7 @@ module _ (Holds : Stage → Type 0) (MayBe : Line → Type 0) (invariant : IsInv
 
   follows : (event : WEvent) → Keeps Holds (Follows event)
   follows (event.Tick name) = invariant.turns name
-  follows (event.Detach name e) = sets (ending name e) (invariant.ending name e)
+  follows (event.Detach name e) = sets (ended_sending name e) (invariant.ending name e)
   follows (event.Stop name) = sets (ending_all name) (invariant.ending_all name)
   follows (event.Start name) = sets (ending_all name) (invariant.ending_all name)
   follows _ = keeps_nothing Holds

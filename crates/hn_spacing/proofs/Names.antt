@@ -5,7 +5,7 @@ pub use Rattle.hn_lab.specs.Delivery.{DeliveryEnds, EventEnds, EventNotes}
 pub use Rattle.hn_lab.specs.Play.{LinesDone, StopsAt}
 pub use Rattle.hn_lab.specs.Process.{EachProcess, Nothing, ThenProcess, Unless}
 pub use Rattle.hn_lab.specs.Senders.{IsSenderAt, sends_at}
-pub use Rattle.hn_lab.specs.Sending.{Solicits, Turns, ending, ending_all, ra_line, starting}
+pub use Rattle.hn_lab.specs.Sending.{Solicits, Turns, ended_sending, ending_all, ra_line, starting}
 pub use Rattle.hn_lab.specs.Stage.{Stage}
 pub use Rattle.hn_lab.specs.Tells.{TellsLines}
 pub use Rattle.hn_lab.specs.Told.{Told}

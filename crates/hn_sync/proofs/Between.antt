@@ -5,7 +5,7 @@ use Rattle.hn_base.proofs.Names.{same_Some, slice_get_within, slice_get_cases, n
 use Rattle.hn_sync.proofs.Names.{◌==◌, ◌&&◌, Addr, EpId, NodeId, Name, Version, nothing_in, Contains-tail, Contains-map, Contains-from_map, from_filter, passing_found, contains_at, Port, datagram_of}
 use Rattle.hn_sync.proofs.Names.{ArePorts, endpoints_of, is_attached, is_port, Arrive, Note, Outgoing, State, MailCopy, Target, Traced, WEvent, Member, Parts, WorldHasItsTrace, WorldHasItsVersion}
 use Rattle.hn_sync.proofs.Names.{address_of_target, on_link_at, on_link, gets, copy_for, copies_on, copies_of_send, copies_of, is_named, is_on, link_of, acting, names_nothing, is_stopped}
-use Rattle.hn_sync.proofs.Names.{lacks_the_endpoint, lacks_a_copy, lacks_room, is_full_of_mail, first_code, refusal, empty_world, Goes, IsReplayed, IsSoundMember, ActsAt, Acts, Delivers, Does, Step}
+use Rattle.hn_sync.proofs.Names.{lacks_the_endpoint, lacks_a_copy, lacks_room, is_full_of_mail, first_code, refusal, empty_world, Goes, IsReplayed, IsSoundMember, ActsAt, RouterActs, DeliversCopy, Does, Step}
 use Rattle.hn_sync.proofs.Names.{acted, entered, taken, request, IsQuestion, AreDeliveries, AreOfExchange, next_event, HasPeerAt}
 use Rattle.std.proofs.lemmas.Bool.Decides.{eqb_tells}
 use Rattle.hn_router.specs.Act.{is_refused}
@@ -198,7 +198,7 @@ module _ (laws : HasLaws) (here there : Target) (count : ℕ) where
 
   -- a delivery keeps that
   module _ (n : ℕ) (before after : Parts) (words : List ℕ) (notes : List Note) (replayed : IsReplayed before) (holds : Holds before.members before.copies)
-      (new : count < n) (h : Delivers n words notes before after) where
+      (new : count < n) (h : DeliversCopy n words notes before after) where
     holds_by : (t peer : Target) → IsUp before.members peer → h.mail.to ≡ t → h.mail.from ≡ address_of_target peer
         → ((c : MailCopy) → (c.to ≡ peer) × (c.from ≡ address_of_target t) → IsBetween c) → IsBetween h.mail → Holds after.members after.copies
     holds_by t peer up to from between mail =
@@ -236,7 +236,7 @@ module _ (laws : HasLaws) (here there : Target) (count : ℕ) where
   holds_along n w after [] new replayed holds goes are = subst (λ (x : Parts). Holds x.members x.copies) (sym goes) holds
   holds_along n w after (t ∷ ts) new replayed holds goes are =
       let step = goes.1.1 in
-      let does : Delivers n t.words goes.1.0 w step.between = subst (λ (e : WEvent). Does e t.words goes.1.0 w step.between) are.0 step.does in
+      let does : DeliversCopy n t.words goes.1.0 w step.between = subst (λ (e : WEvent). Does e t.words goes.1.0 w step.between) are.0 step.does in
       let then : Holds step.between.members step.between.copies = holds_then n w step.between t.words goes.1.0 replayed holds new does in
       let entered : Holds goes.0.members goes.0.copies = subst (λ (x : Parts). Holds x.members x.copies) (sym step.gives) then in
       holds_along (suc n) goes.0 after ts (omega (arith, new)) (replayed_more t w goes.0 replayed goes.1) entered goes.2 are.1
@@ -302,7 +302,7 @@ module _ (laws : HasLaws) (a b : Name) (code : ℕ) (before : Parts) (replayed :
 
   -- after it, the two endpoints are up, and its copies go back
   module _ (t : Traced) (notes : List Note) (then : Parts) (is : t.event ≡ question) (step : Step t notes before then) where
-    does_ask : Acts (λ m. m) a (Arrive (record { endpoint = asks.e; from = address_of_target asker; multicast = false })
+    does_ask : RouterActs (λ m. m) a (Arrive (record { endpoint = asks.e; from = address_of_target asker; multicast = false })
         (datagram_of asks.two.router.id asks.f (request ∷ []))) t.words notes before step.between
     does_ask = subst (λ (e : WEvent). Does e t.words notes before step.between) (is ∙ asks.gives) step.does
 

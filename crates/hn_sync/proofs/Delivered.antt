@@ -1,7 +1,7 @@
 -- Deliveries one after another, and the exchange that they are part of.
 use Rattle.hn_base.proofs.Names.{◌≡◌, ◌∙◌, ◌<◌, ◌≤◌, ◌+◌, ℕ, suc, Bool, cond, List, [], ◌∷◌, ◌++◌, length, Option, Some, None, sym, ap, subst, refl, append_assoc, arith, le-leb, lt-leb, append-nil}
 use Rattle.hn_base.proofs.Names.{length_push, IsAt, Took}
-use Rattle.hn_sync.proofs.Names.{Name, WordsJoin, Note, Traced, WEvent, Parts, EachEventIsEntered, refusal, Goes, words_of_trace, Step, IsStep, IsQuestion, AreDeliveries, AreDelivered, delivery}
+use Rattle.hn_sync.proofs.Names.{Name, WordsJoin, Note, Traced, WEvent, Parts, EachEventIsEntered, refusal, Goes, words_of_trace, Step, IsStep, IsQuestion, AreDeliveries, CopiesAreDelivered, delivery}
 use Rattle.hn_sync.proofs.Names.{ExchangesSoFar}
 use Rattle.hn_world.specs.declared.event.WEvent.TheVariants as event
 use Rattle.hn_sync.specs.Exchange.{IsBegunExchange, ExchangeStopsAt, IsCutOff}
@@ -75,38 +75,39 @@ pub one_delivery : (copy : ℕ) (w : Parts) → copy ≤ length w.copies → del
 one_delivery copy w there = ap (λ (b : Bool). cond b (Some (event.Deliver copy)) None) (le-leb copy (length w.copies) there)
 
 module _ (copies delivered : ℕ) (told told_after : Option (ℕ → ℕ)) (before after : Parts) (h : Came copies delivered told told_after before after) where
-  pub came_all : length after.copies ≤ delivered → (ts : List Traced) × AreDelivered (copies + 1) ts None before after × Took told (words_of_trace ts) told_after
+  pub came_all : length after.copies ≤ delivered → (ts : List Traced) × CopiesAreDelivered (copies + 1) ts None before after × Took told (words_of_trace ts) told_after
   came_all all =
       let at = h.at in
       (h.ts, record { goes = h.goes; events = h.events; is_next = sym (no_delivery (copies + 1 + length h.ts) after (omega arith)) }, h.drew)
 
-  came_next : delivered < length after.copies → AreDelivered (copies + 1) h.ts (Some (event.Deliver (delivered + 1))) before after
+  came_next : delivered < length after.copies → CopiesAreDelivered (copies + 1) h.ts (Some (event.Deliver (delivered + 1))) before after
   came_next more =
       let at = h.at in
       let copy : delivered + 1 ≡ copies + 1 + length h.ts = omega arith in
       record { goes = h.goes; events = h.events; is_next = ap (λ (n : ℕ). Some (event.Deliver n)) copy ∙ sym (one_delivery (copies + 1 + length h.ts) after (omega arith)) }
 
   pub came_refused : (code : ℕ) → delivered < length after.copies → refusal after (event.Deliver (delivered + 1)) ≡ Some code
-      → (ts : List Traced) × (next : WEvent) × AreDelivered (copies + 1) ts (Some next) before after × (refusal after next ≡ Some code) × Took told (words_of_trace ts) told_after
+      → (ts : List Traced) × (next : WEvent) × CopiesAreDelivered (copies + 1) ts (Some next) before after × (refusal after next ≡ Some code) × Took told (words_of_trace ts) told_after
   came_refused code more is = (h.ts, event.Deliver (delivered + 1), came_next more, is, h.drew)
 
-  pub came_cut : delivered < length after.copies → (ts : List Traced) × (next : WEvent) × AreDelivered (copies + 1) ts (Some next) before after
+  pub came_cut : delivered < length after.copies → (ts : List Traced) × (next : WEvent) × CopiesAreDelivered (copies + 1) ts (Some next) before after
   came_cut more = (h.ts, event.Deliver (delivered + 1), came_next more)
 
 -- where the next delivery failed, the world is as before it
 module _ (copies delivered : ℕ) (told told_after : Option (ℕ → ℕ)) (before after end : Parts) (same : end ≡ after)
     (h : Came copies delivered told told_after before after) (more : delivered < length after.copies) where
   pub refused_then : (told_end : Option (ℕ → ℕ)) → told_end ≡ told_after → (code : ℕ) → refusal after (event.Deliver (delivered + 1)) ≡ Some code
-      → (ts : List Traced) × (next : WEvent) × AreDelivered (copies + 1) ts (Some next) before end × (refusal end next ≡ Some code) × Took told (words_of_trace ts) told_end
+      → (ts : List Traced) × (next : WEvent) × CopiesAreDelivered (copies + 1) ts (Some next) before end × (refusal end next ≡ Some code) × Took told (words_of_trace ts) told_end
   refused_then told_end undrawn code is =
       let then = came_refused copies delivered told told_after before after h code more is in
-      subst (λ (w : Parts). (ts : List Traced) × (next : WEvent) × AreDelivered (copies + 1) ts (Some next) before w × (refusal w next ≡ Some code) × Took told (words_of_trace ts) told_end) (sym same)
+      subst (λ (w : Parts). (ts : List Traced) × (next : WEvent) × CopiesAreDelivered (copies + 1) ts (Some next) before w × (refusal w next ≡ Some code)
+          × Took told (words_of_trace ts) told_end) (sym same)
       (then.0, then.1, then.2, then.3, subst (λ (o : Option (ℕ → ℕ)). Took told (words_of_trace then.0) o) (sym undrawn) then.4)
 
-  pub cut_then : (ts : List Traced) × (next : WEvent) × AreDelivered (copies + 1) ts (Some next) before end
+  pub cut_then : (ts : List Traced) × (next : WEvent) × CopiesAreDelivered (copies + 1) ts (Some next) before end
   cut_then =
       let then = came_cut copies delivered told told_after before after h more in
-      (then.0, then.1, subst (λ (w : Parts). AreDelivered (copies + 1) then.0 (Some then.1) before w) (sym same) then.2)
+      (then.0, then.1, subst (λ (w : Parts). CopiesAreDelivered (copies + 1) then.0 (Some then.1) before w) (sym same) then.2)
 
 -- ---- an exchange
 
@@ -125,7 +126,7 @@ module _ (a b : Name) (before : Parts) (question : WEvent) (asks : IsQuestion a 
     abbrev asking : Traced
     asking = record { event = question; words = words }
 
-    begun_more : (ts : List Traced) (next : Option WEvent) (after : Parts) → AreDelivered (length before.copies + 1) ts next then after → IsBegunExchange a b (asking ∷ ts) next before after
+    begun_more : (ts : List Traced) (next : Option WEvent) (after : Parts) → CopiesAreDelivered (length before.copies + 1) ts next then after → IsBegunExchange a b (asking ∷ ts) next before after
     begun_more ts next after h =
         let first : length before.copies + 1 ≡ suc (length before.copies) = omega arith in
         let number : length before.copies + 1 + length ts ≡ length before.copies + suc (length ts) = omega arith in
@@ -138,11 +139,11 @@ module _ (a b : Name) (before : Parts) (question : WEvent) (asks : IsQuestion a 
         }
 
     pub exchanges_more : WordsJoin → (told between told_after : Option (ℕ → ℕ)) (ts : List Traced) (next : Option WEvent) (after : Parts) → Took told words between
-        → AreDelivered (length before.copies + 1) ts next then after → Took between (words_of_trace ts) told_after → ExchangesSoFar a b next told told_after before after
+        → CopiesAreDelivered (length before.copies + 1) ts next then after → Took between (words_of_trace ts) told_after → ExchangesSoFar a b next told told_after before after
     exchanges_more join told between told_after ts next after first h rest =
         record { ts = asking ∷ ts; begun = begun_more ts next after h; drew = join told between told_after words (words_of_trace ts) first rest }
 
-    pub cut_more : (ts : List Traced) (next : WEvent) (after : Parts) → AreDelivered (length before.copies + 1) ts (Some next) then after → IsCutOff a b before after
+    pub cut_more : (ts : List Traced) (next : WEvent) (after : Parts) → CopiesAreDelivered (length before.copies + 1) ts (Some next) then after → IsCutOff a b before after
     cut_more ts next after h = record { ts = asking ∷ ts; next = next; begun = begun_more ts (Some next) after h }
 
 -- ---- the call
@@ -160,15 +161,15 @@ module _ (a b : Name) (before end : Parts) (same : end ≡ before) (question : W
 -- the deliveries after the question
 module _ (join : WordsJoin) (a b : Name) (copies : ℕ) (told between told_after : Option (ℕ → ℕ)) (notes : List Note) (question : WEvent) (before then after : Parts)
     (is : copies ≡ length before.copies) (asks : IsQuestion a b before question) (step : IsStep question notes told between before then) where
-  so_many : (ts : List Traced) (next : Option WEvent) → AreDelivered (copies + 1) ts next then after → AreDelivered (length before.copies + 1) ts next then after
-  so_many ts next h = subst (λ (n : ℕ). AreDelivered (n + 1) ts next then after) is h
+  so_many : (ts : List Traced) (next : Option WEvent) → CopiesAreDelivered (copies + 1) ts next then after → CopiesAreDelivered (length before.copies + 1) ts next then after
+  so_many ts next h = subst (λ (n : ℕ). CopiesAreDelivered (n + 1) ts next then after) is h
 
-  pub whole_after : (ts : List Traced) × AreDelivered (copies + 1) ts None then after × Took between (words_of_trace ts) told_after → ExchangesSoFar a b None told told_after before after
+  pub whole_after : (ts : List Traced) × CopiesAreDelivered (copies + 1) ts None then after × Took between (words_of_trace ts) told_after → ExchangesSoFar a b None told told_after before after
   whole_after h =
       exchanges_more a b before question asks step.words notes then step.step join told between told_after h.0 None after step.drew (so_many h.0 None h.1) h.2
 
   pub stops_after : (code : ℕ)
-      → (ts : List Traced) × (next : WEvent) × AreDelivered (copies + 1) ts (Some next) then after × (refusal after next ≡ Some code) × Took between (words_of_trace ts) told_after
+      → (ts : List Traced) × (next : WEvent) × CopiesAreDelivered (copies + 1) ts (Some next) then after × (refusal after next ≡ Some code) × Took between (words_of_trace ts) told_after
       → ExchangeStopsAt a b code told told_after before after
   stops_after code h = record {
     next = h.1;
@@ -176,5 +177,5 @@ module _ (join : WordsJoin) (a b : Name) (copies : ℕ) (told between told_after
     refused = h.3;
   }
 
-  pub cut_after : (ts : List Traced) × (next : WEvent) × AreDelivered (copies + 1) ts (Some next) then after → IsCutOff a b before after
+  pub cut_after : (ts : List Traced) × (next : WEvent) × CopiesAreDelivered (copies + 1) ts (Some next) then after → IsCutOff a b before after
   cut_after h = cut_more a b before question asks step.words notes then step.step h.0 h.1 after (so_many h.0 (Some h.1) h.2)

@@ -2,7 +2,7 @@
 use Rattle.hn_base.proofs.Names.{◌≡◌, ◌∙◌, ◌⊎◌, ◌<◌, ◌+◌, ◌-◌, ◌^◌, ℕ, suc, Bool, true, false, List, [], ◌∷◌, ◌++◌, length, map, slice_get, position, Contains, Some, sym, ap, subst, refl, inl, inr}
 use Rattle.hn_base.proofs.Names.{arith, All-nil, All-contains, Contains-append_right, Contains-append_cases, same_Some}
 use Rattle.hn_sync.proofs.Names.{All, nothing_in, Contains-head, Contains-tail, Contains-cases, all_of, Addr, Entry, Part, Arrive, Happened, Done, Note, State, IsPublished, begun_at, IsStale}
-use Rattle.hn_sync.proofs.Names.{MailCopy, Target, Traced, WEvent, Member, Parts, address_of_target, copies_of, is_named, link_of, Goes, IsReplayed, ActsAt, Delivers, Does, acted, entered, taken}
+use Rattle.hn_sync.proofs.Names.{MailCopy, Target, Traced, WEvent, Member, Parts, address_of_target, copies_of, is_named, link_of, Goes, IsReplayed, ActsAt, DeliversCopy, Does, acted, entered, taken}
 use Rattle.hn_sync.proofs.Names.{AreDeliveries, state_of}
 use Rattle.hn_sync.proofs.Between.{replayed_more}
 use Rattle.hn_sync.proofs.NodeStatesSaid.{Says, Asks}
@@ -201,7 +201,7 @@ module _ (laws : GoingLaws) (here there : Target) (link : ℕ) (start before : S
         }
 
     -- a copy is delivered
-    delivered : (after : Parts) (d : Delivers n words notes w after) → d.between ≡ between
+    delivered : (after : Parts) (d : DeliversCopy n words notes w after) → d.between ≡ between
         → ((m : Member) → position (is_named other_name) after.members ≡ Some there.place → slice_get after.members there.place ≡ Some m → m.router.id ≡ before.id)
         → d.mail ≡ l.copy → Going (suc n) after
     delivered after d same_between named is = by_side l.to_asker refl
@@ -257,7 +257,7 @@ module _ (laws : GoingLaws) (here there : Target) (link : ℕ) (start before : S
       subst (λ (x : Parts). Going (n + 0) x) (sym goes) (subst (λ (k : ℕ). Going k w) (sym same) h)
   along (t ∷ ts) n w after replayed h goes are named =
       let step = goes.1.1 in
-      let d : Delivers n t.words goes.1.0 w step.between = subst (λ (e : WEvent). Does e t.words goes.1.0 w step.between) are.0 step.does in
+      let d : DeliversCopy n t.words goes.1.0 w step.between = subst (λ (e : WEvent). Does e t.words goes.1.0 w step.between) are.0 step.does in
       let first = first_letter laws here there link start before pair name other_name n w h d.mail d.is_copy in
       let then : IsReplayed goes.0 = replayed_more laws.world here there n t w goes.0 replayed goes.1 in
       let is_so = λ (m : Member). λ (place : position (is_named other_name) (step.between).members ≡ Some there.place). λ (at : slice_get (step.between).members there.place ≡ Some m).

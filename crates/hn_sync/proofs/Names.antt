@@ -51,7 +51,7 @@ pub use Rattle.hn_store.specs.declared.state.OwnLeaf.{OwnLeaf}
 pub use Rattle.hn_store.specs.declared.state.Took.{Took}
 pub use Rattle.hn_store.specs.declared.stored.HeldNode.{HeldNode}
 pub use Rattle.hn_store.specs.declared.stored.Stored.{Stored}
-pub use Rattle.hn_sync.specs.Exchange.{AreDelivered, AreDeliveries, AreOfExchange, ExchangeEnds, ExchangesSoFar, IsQuestion, delivery, next_event, request, unless_exchange}
+pub use Rattle.hn_sync.specs.Exchange.{CopiesAreDelivered, AreDeliveries, AreOfExchange, ExchangeEnds, ExchangesSoFar, IsQuestion, delivery, next_event, request, unless_exchange}
 pub use Rattle.hn_sync.specs.Joined.{AreLeast, HasPeerAt, joint_of}
 pub use Rattle.hn_sync.specs.Laws.{AsksOrIsRefused, QuestionIsUnique}
 pub use Rattle.hn_sync.specs.Repairs.{HasRoomFor, IsRepaired, is_news, state_of}
@@ -66,7 +66,7 @@ pub use Rattle.hn_world.specs.Names.{is_named, is_on, link_of, member_named, rou
 pub use Rattle.hn_world.specs.Refusal.{acting, first_code, is_full_of_mail, is_stopped, lacks_a_copy, lacks_room, lacks_the_endpoint, names_nothing, refusal}
 pub use Rattle.hn_world.specs.Replay.{Goes, IsReplayed, IsSoundMember, Replays, empty_world, words_of_trace}
 pub use Rattle.hn_world.specs.Routed.{routed}
-pub use Rattle.hn_world.specs.Step.{Acts, ActsAt, Delivers, Does, IsStep, Step, acted, entered, taken}
+pub use Rattle.hn_world.specs.Step.{RouterActs, ActsAt, DeliversCopy, Does, IsStep, Step, acted, entered, taken}
 pub use Rattle.hn_world.specs.declared.copies.MailCopy.{MailCopy}
 pub use Rattle.hn_world.specs.declared.copies.Target.{Target}
 pub use Rattle.hn_world.specs.declared.event.Traced.{Traced}

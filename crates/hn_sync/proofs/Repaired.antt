@@ -3,7 +3,7 @@ use Rattle.hn_base.proofs.Names.{◌≡◌, ◌≢◌, ◌∙◌, ◌<◌, ◌�
 use Rattle.hn_base.proofs.Names.{refl, inl, inr, arith, length-append, option_map, cases_eq, leb-false, length-map, All-contains, find_at, same_Some, bytes_eq-Decides, name_text}
 use Rattle.hn_sync.proofs.Names.{◌==◌, find, nothing_in, found_passes, same_node, contains_at, NodeId, Name, Version, Entry, datagram_of, Arrive, Happened, Note, State, held_entry, own_entry}
 use Rattle.hn_sync.proofs.Names.{entry_of, IsRouter, held, Stored, Target, Traced, WEvent, Member, Parts, EachEventIsEntered, address_of_target, is_named, member_named, router_place, Goes, Replays}
-use Rattle.hn_sync.proofs.Names.{IsReplayed, IsSoundMember, Acts, Does, Step, acted, entered, request, IsQuestion, AreDeliveries, delivery, HasRoomFor, IsRepaired}
+use Rattle.hn_sync.proofs.Names.{IsReplayed, IsSoundMember, RouterActs, Does, Step, acted, entered, request, IsQuestion, AreDeliveries, delivery, HasRoomFor, IsRepaired}
 use Rattle.std.proofs.Common.{nat_le}
 use Rattle.hn_base.proofs.Elements.{from_filter_map}
 use Rattle.hn_rules.specs.Nodes.{view_of}
@@ -105,7 +105,7 @@ module _ (laws : RepairLaws) (a b : Name) (before after : Parts) (replayed : IsR
   module _ (t : Traced) (rest : List Traced) (notes : List Note) (then : Parts) (is : t.event ≡ question) (step : Step t notes before then)
       (goes : Goes then rest after) (are : AreDeliveries (suc (length before.copies)) rest)
       (ends : None ≡ delivery (length before.copies + suc (length rest)) after) where
-    does_ask : Acts (λ m. m) a (Arrive (record { endpoint = asks.e; from = address_of_target (record { place = asks.place; endpoint = asks.f }); multicast = false })
+    does_ask : RouterActs (λ m. m) a (Arrive (record { endpoint = asks.e; from = address_of_target (record { place = asks.place; endpoint = asks.f }); multicast = false })
         (datagram_of asks.two.router.id asks.f (request ∷ []))) t.words notes before step.between
     does_ask = subst (λ (e : WEvent). Does e t.words notes before step.between) (is ∙ asks.gives) step.does
 

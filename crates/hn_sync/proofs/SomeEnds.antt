@@ -2,7 +2,7 @@
 use Rattle.hn_base.proofs.Names.{◌≡◌, ◌<◌, ◌≤◌, ◌+◌, ◌-◌, ℕ, zero, suc, List, [], ◌∷◌, length, Option, Some, None, refl, sym, ap, subst, inl, inr, arith, cases_lt, length_push, IsByte, Some!, Begins}
 use Rattle.hn_base.proofs.Names.{Took}
 use Rattle.hn_sync.proofs.Names.{All, EpId, NodeId, Name, datagram_of, sender_tlv, WordsJoin, Note, ListIsOfBytes, RequestNetwork, tlv_of, Traced, WEvent, Parts, EachEventIsEntered, WorldHasItsTrace}
-use Rattle.hn_sync.proofs.Names.{WorldHasItsVersion, refusal, IsReplayed, words_of_trace, routed, IsStep, Step, request, AreDelivered, ExchangeEnds, IsQuestion, AsksOrIsRefused}
+use Rattle.hn_sync.proofs.Names.{WorldHasItsVersion, refusal, IsReplayed, words_of_trace, routed, IsStep, Step, request, CopiesAreDelivered, ExchangeEnds, IsQuestion, AsksOrIsRefused}
 use Rattle.hn_base.proofs.SomeExists.{some_then}
 use Rattle.hn_world.specs.declared.event.WEvent.TheVariants as event
 use Rattle.hn_world.specs.Existing.{HasAStep, IsOfBytesAt, Outcome, ReplayedStepExists}
@@ -47,9 +47,9 @@ step_of event f w o h = record { words = o.words; step = h.0; drew = took_first 
 -- they go on until every copy was delivered, or one is refused
 abbrev DeliveriesEnd : ℕ → Option ℕ → Option (ℕ → ℕ) → Option (ℕ → ℕ) → Parts → Parts → Type 0
 DeliveriesEnd copies None told told_after before after =
-    (ts : List Traced) × AreDelivered (copies + 1) ts None before after × Took told (words_of_trace ts) told_after
+    (ts : List Traced) × CopiesAreDelivered (copies + 1) ts None before after × Took told (words_of_trace ts) told_after
 DeliveriesEnd copies (Some code) told told_after before after =
-    (ts : List Traced) × (next : WEvent) × AreDelivered (copies + 1) ts (Some next) before after × (refusal after next ≡ Some code) × Took told (words_of_trace ts) told_after
+    (ts : List Traced) × (next : WEvent) × CopiesAreDelivered (copies + 1) ts (Some next) before after × (refusal after next ≡ Some code) × Took told (words_of_trace ts) told_after
 
 abbrev TheyEnd : ℕ → (ℕ → ℕ) → Parts → EndOfExchange → Type 0
 TheyEnd copies f before e = DeliveriesEnd copies e.code (Some f) (Some e.rest) before e.world

@@ -1,7 +1,7 @@
 -- One exchange: a router asks another one for the network state, and each datagram of this is delivered at once.
 use Rattle.std.specs.Prelude.{◌≡◌, ℕ, zero, suc, ◌+◌, true, false, nat_le, is_none, if◌then◌else◌, List, [], ◌∷◌, length, Option, None, Some}
 use Rattle.std.specs.Option.{option_or}
-use Rattle.hn_base.specs.Exists.{Some! }
+use Rattle.hn_base.specs.Exists.{Some!}
 use Rattle.hn_base.specs.Name.{name_text}
 use Rattle.hn_base.specs.Words.{Took}
 use Rattle.hn_base.specs.declared.ids.EpId.{EpId}
@@ -66,7 +66,7 @@ next_event question copies zero w = Some question
 next_event question copies (suc count) w = delivery (copies + suc count) w
 
 -- The copies from a number on were delivered, as far as this has come, and the event that comes next.
-pub record AreDelivered (copy : ℕ) (ts : List Traced) (next : Option WEvent) (before after : Parts) : Type 0 where
+pub record CopiesAreDelivered (copy : ℕ) (ts : List Traced) (next : Option WEvent) (before after : Parts) : Type 0 where
   pub goes : Goes before ts after
   pub events : AreDeliveries copy ts
   pub is_next : next ≡ delivery (copy + length ts) after

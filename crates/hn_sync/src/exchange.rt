@@ -7,7 +7,7 @@ ghost use Rattle.hn_world.specs.declared.event.WEvent.{WEvent};
 ghost use Rattle.hn_world.specs.declared.parts.Parts.{Parts};
 ghost use Rattle.hn_world.specs.Refusal.{refusal};
 ghost use Rattle.hn_world.specs.Replay.{words_of_trace};
-ghost use Rattle.hn_sync.specs.Exchange.{AreDelivered, ExchangesSoFar, HasAnEnd, IsCutOff, ExchangeStopsAt, unless_exchange};
+ghost use Rattle.hn_sync.specs.Exchange.{CopiesAreDelivered, ExchangesSoFar, HasAnEnd, IsCutOff, ExchangeStopsAt, unless_exchange};
 ghost use Rattle.hn_sync.specs.Repairs.{Repairs};
 
 use crate::joint::unless_exchange;
@@ -72,12 +72,12 @@ fn deliver_after<D: Draw>(
     copies: u64,
     draw: &mut D,
 ) -> Result<(), WorldFault>
-    ensures ok { OnOk result ((ts : List Traced) × AreDelivered (copies + 1) ts None world.old world.new × Took (D.words draw.old) (words_of_trace ts) (D.words draw.new)) }
+    ensures ok { OnOk result ((ts : List Traced) × CopiesAreDelivered (copies + 1) ts None world.old world.new × Took (D.words draw.old) (words_of_trace ts) (D.words draw.new)) }
     ensures refused { (code : ℕ) → result ≡ Err (WorldFault.Refused code)
-        → (ts : List Traced) × (next : WEvent) × AreDelivered (copies + 1) ts (Some next) world.old world.new
+        → (ts : List Traced) × (next : WEvent) × CopiesAreDelivered (copies + 1) ts (Some next) world.old world.new
         × (refusal world.new next ≡ Some code) × Took (D.words draw.old) (words_of_trace ts) (D.words draw.new) }
     ensures starved { result ≡ Err WorldFault.NoMemory
-        → (ts : List Traced) × (next : WEvent) × AreDelivered (copies + 1) ts (Some next) world.old world.new }
+        → (ts : List Traced) × (next : WEvent) × CopiesAreDelivered (copies + 1) ts (Some next) world.old world.new }
 {
     words_join();
     each_event_is_entered();

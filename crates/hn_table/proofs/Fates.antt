@@ -1,8 +1,8 @@
 -- What becomes of a delegated prefix.
 use Rattle.hn_base.proofs.Names.{◌≡◌, ◌∙◌, ◌<◌, ◌≤◌, ℕ, List, [], ◌∷◌, length, get_or, Contains, inl, inr, refl, sym, ap, arith, get_or-map, get_or_default, length-map, PlainPrefix}
-use Rattle.hn_table.proofs.Names.{HasDelegation, HasVersion, PlainView, Delegation, Entry, remaining, IsAnnouncedPrefix, AreUsable, IsOutermost, prefixes_of, Delegated, IsPast}
+use Rattle.hn_table.proofs.Names.{HasDelegation, HasVersion, PlainView, Delegation, Entry, remaining, IsAnnouncedPrefix, AreUsable, IsOutermost, prefixes_of, Delegated, IsPastTheUsed}
 use Rattle.std.specs.List.{Any}
-use Rattle.hn_table.specs.Fate.{IsCandidate}
+use Rattle.hn_table.specs.Fate.{IsAnnouncedCandidate}
 
 -- the prefix of a delegated prefix
 abbrev prefix_of : Delegated → PlainPrefix
@@ -29,19 +29,19 @@ some_left n left is some = omega arith
 
 -- a delegation of a node of the view that is live and of at most 64 bits is a candidate
 pub candidate_of : (view : PlainView) (node : Entry) (d : Delegation) → Contains view.nodes node → HasVersion node.body → HasDelegation node.body d → 0 < remaining node.age d.valid → d.prefix.len ≤ 64
-    → IsCandidate view node d
+    → IsAnnouncedCandidate view node d
 candidate_of view node d seen version said live short = record {
   announced = record { reachable = seen; version = version; said = said; live = live };
   short = short;
 }
 
 -- and so its prefix is announced
-pub announced_prefix : (view : PlainView) (node : Entry) (d : Delegation) → IsCandidate view node d → IsAnnouncedPrefix view d.prefix
+pub announced_prefix : (view : PlainView) (node : Entry) (d : Delegation) → IsAnnouncedCandidate view node d → IsAnnouncedPrefix view d.prefix
 announced_prefix view node d is = record { short = is.short; node = node; delegation = d; announced = is.announced; is_it = refl }
 
 -- one that is inside no other and is not used comes after those that are
-pub past_of : (view : PlainView) (used : List Delegated) (node : Entry) (d : Delegation) → AreUsable view used → IsCandidate view node d → IsOutermost view d.prefix
-    → ¬ Contains (prefixes_of used) d.prefix → IsPast view used node d
+pub past_of : (view : PlainView) (used : List Delegated) (node : Entry) (d : Delegation) → AreUsable view used → IsAnnouncedCandidate view node d → IsOutermost view d.prefix
+    → ¬ Contains (prefixes_of used) d.prefix → IsPastTheUsed view used node d
 past_of view used node d usable candidate outermost not_among =
     elim (usable.first d.prefix outermost) [
       | inl among ↦ absurd (not_among among)

@@ -3,7 +3,8 @@ use Rattle.hn_base.proofs.Names.{◌≡◌, ◌∙◌, ◌+◌, ◌<◌, ℕ, Li
 use Rattle.hn_table.proofs.Names.{Assigned, Member, table_line, assigned_line}
 use Rattle.hn_base.specs.declared.ids.NodeId.{NodeId}
 use Rattle.hn_prefix.specs.PrefixText.{prefix_text_of}
-use Rattle.hn_table.specs.Lines.{yes_no, published_word}
+use Rattle.hn_base.specs.YesNo.{yes_no}
+use Rattle.hn_table.specs.Lines.{published_word}
 
 -- one more, as a `for` goes over a slice
 module _ {A : Type 0} (f : A → List ℕ) (xs : List A) (i : ℕ) (begins so_far : List ℕ) where

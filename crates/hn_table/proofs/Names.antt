@@ -12,10 +12,10 @@ pub use Rattle.hn_store.specs.Loss.{is_among}
 pub use Rattle.hn_store.specs.declared.stored.HeldNode.{HeldNode}
 pub use Rattle.hn_table.specs.Data.{IsDataText}
 pub use Rattle.hn_table.specs.Delegated.{AreSeenLines, AreUnseenLines, IsFateLine}
-pub use Rattle.hn_table.specs.Fate.{IsPast}
+pub use Rattle.hn_table.specs.Fate.{IsPastTheUsed}
 pub use Rattle.hn_table.specs.FateText.{delegated_line}
 pub use Rattle.hn_table.specs.InOrder.{Adds, InOrder}
-pub use Rattle.hn_table.specs.Lines.{assigned_line, backoff_line, node_line, peers_lines, table_line}
+pub use Rattle.hn_table.specs.Lines.{assigned_line, backoff_line, held_line, peers_lines, table_line}
 pub use Rattle.hn_table.specs.Outer.{HasNoOuter, IsNoOuter}
 pub use Rattle.hn_table.specs.declared.fate.Fate.TheVariants.{Unreachable}
 pub use Rattle.hn_world.specs.declared.member.Member.{Member}

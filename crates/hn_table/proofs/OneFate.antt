@@ -1,6 +1,6 @@
 -- A delegated prefix has no two fates.
 use Rattle.hn_base.proofs.Names.{◌≡◌, ◌↔◌, ◌<◌, ◌≤◌, List, ◌⊎◌, ⊎_elim, Contains, refl, sym, ap, subst, arith, All-contains, PlainPrefix, IsWithin, Overlaps}
-use Rattle.hn_table.proofs.Names.{All, HasVersion, PlainView, Delegation, Entry, remaining, AreUsable, IsOutermost, prefixes_of, Delegated, IsPast, Unreachable}
+use Rattle.hn_table.proofs.Names.{All, HasVersion, PlainView, Delegation, Entry, remaining, AreUsable, IsOutermost, prefixes_of, Delegated, IsPastTheUsed, Unreachable}
 use Rattle.hn_base.proofs.AscendingLists.{Contains-from_map}
 use Rattle.hn_table.specs.Fate.{IsUsed, IsEnded, IsLong, IsInsideOther, IsFate, HasOneFate}
 use Rattle.hn_table.specs.declared.fate.Fate.{Fate}
@@ -84,7 +84,7 @@ module _ (nesting : OverlapIsNesting) (view : PlainView) (used : List Delegated)
   inside outer Past h k = absurd (inside_is_outermost outer k.outermost h)
   inside outer Unreachable h k = absurd k
 
-  past : (b : Fate) → IsPast view used node d → Has b → Past ≡ b
+  past : (b : Fate) → IsPastTheUsed view used node d → Has b → Past ≡ b
   past Used h k = absurd (h.not_among k.among)
   past NoVersion h k = absurd (k h.candidate.announced.version)
   past Ended h k = absurd (ended_is_live k.ended h.candidate.announced.live)

@@ -13,13 +13,13 @@ use Rattle.hn_table.specs.declared.fate.Fate.{Fate}
 use Rattle.hn_table.specs.declared.fate.Fate.TheVariants.{Used, NoVersion, Ended, Long, Inside, Past, Unreachable}
 
 -- the node announces it, and it has at most 64 bits: so it is a candidate
-pub record IsCandidate (view : PlainView) (node : Entry) (d : Delegation) : Type 0 where
+pub record IsAnnouncedCandidate (view : PlainView) (node : Entry) (d : Delegation) : Type 0 where
   pub announced : IsAnnounced view node d
   pub short : d.prefix.len ≤ 64
 
 -- it is a candidate, and among the prefixes that are used
 pub record IsUsed (view : PlainView) (used : List Delegated) (node : Entry) (d : Delegation) : Type 0 where
-  pub candidate : IsCandidate view node d
+  pub candidate : IsAnnouncedCandidate view node d
   pub among : Contains (prefixes_of used) d.prefix
 
 -- nothing is left of its valid lifetime
@@ -35,14 +35,14 @@ pub record IsLong (node : Entry) (d : Delegation) : Type 0 where
 
 -- it is a candidate, and this other one, the outermost, has it inside
 pub record IsInsideOther (view : PlainView) (node : Entry) (d : Delegation) (outer : PlainPrefix) : Type 0 where
-  pub candidate : IsCandidate view node d
+  pub candidate : IsAnnouncedCandidate view node d
   pub outermost : IsOutermost view outer
   pub inside : IsWithin d.prefix outer
   pub different : outer ≢ d.prefix
 
 -- it is a candidate inside no other one, and comes after the 32 prefixes that are used
-pub record IsPast (view : PlainView) (used : List Delegated) (node : Entry) (d : Delegation) : Type 0 where
-  pub candidate : IsCandidate view node d
+pub record IsPastTheUsed (view : PlainView) (used : List Delegated) (node : Entry) (d : Delegation) : Type 0 where
+  pub candidate : IsAnnouncedCandidate view node d
   pub outermost : IsOutermost view d.prefix
   pub not_among : ¬ Contains (prefixes_of used) d.prefix
   pub full : length used ≡ 32
@@ -56,7 +56,7 @@ IsFate view used node d NoVersion = ¬ HasVersion node.body
 IsFate view used node d Ended = IsEnded node d
 IsFate view used node d Long = IsLong node d
 IsFate view used node d (Inside outer) = IsInsideOther view node d outer
-IsFate view used node d Past = IsPast view used node d
+IsFate view used node d Past = IsPastTheUsed view used node d
 IsFate view used node d Unreachable = ⊥
 
 -- Nothing has two fates, where these prefixes are the usable ones.

@@ -5,6 +5,7 @@ use Rattle.std.specs.List.{flat_map}
 use Rattle.hn_assign.specs.declared.assigned.Assigned.{Assigned}
 use Rattle.hn_assign.specs.declared.backoff.Backoff.{Backoff}
 use Rattle.hn_base.specs.HexText.{hex_text, id_text}
+use Rattle.hn_base.specs.YesNo.{yes_no}
 use Rattle.hn_base.specs.declared.ids.EpId.{EpId}
 use Rattle.hn_dncp.specs.declared.peers.Neighbour.{Neighbour}
 use Rattle.hn_dncp.specs.declared.port.Port.{Port}
@@ -12,10 +13,6 @@ use Rattle.hn_prefix.specs.AddressText.{address_text_of}
 use Rattle.hn_prefix.specs.PrefixText.{prefix_text_of}
 use Rattle.hn_store.specs.declared.stored.HeldNode.{HeldNode}
 use Rattle.hn_world.specs.declared.member.Member.{Member}
-
--- whether it is so, as a word
-abbrev pub yes_no : Bool → List ℕ
-yes_no answer = if answer then codes "yes" else codes "no"
 
 -- the router: its identifier, sequence number and network state hash, the moment of its last event, and whether it runs
 abbrev pub table_line : List ℕ → Member → List ℕ
@@ -39,8 +36,8 @@ lost_words (Some moment) = codes "reachable=no lost=" ++ decimal moment
 lost_words None = codes "reachable=yes"
 
 -- a node that is held: its sequence number and the hash of its data, how old these were when they arrived, and when that was
-abbrev pub node_line : HeldNode → List ℕ
-node_line node =
+abbrev pub held_line : HeldNode → List ℕ
+held_line node =
     codes "node " ++ id_text node.id.0 ++ codes " number=" ++ decimal node.stored.number ++ codes " hash=" ++ hex_text node.stored.hash
     ++ codes " age=" ++ decimal node.stored.age ++ codes " since=" ++ decimal node.stored.at ++ codes " " ++ lost_words node.stored.lost ++ 10 ∷ []
 

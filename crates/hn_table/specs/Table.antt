@@ -8,12 +8,12 @@ use Rattle.hn_rules.specs.declared.state.State.{State}
 use Rattle.hn_world.specs.declared.member.Member.{Member}
 use Rattle.hn_table.specs.Data.{IsDataText, AreHeldTexts}
 use Rattle.hn_table.specs.Delegated.{AreAllSeenLines, AreAllUnseenLines, used_line}
-use Rattle.hn_table.specs.Lines.{table_line, peers_lines, node_line, assigned_line, backoff_line}
+use Rattle.hn_table.specs.Lines.{table_line, peers_lines, held_line, assigned_line, backoff_line}
 
 -- the router itself, its peers, the nodes that it holds, its assignments and its backoffs
 abbrev pub held_lines : List ℕ → Member → List ℕ
 held_lines name m =
-    table_line name m ++ flat_map peers_lines m.router.ports ++ flat_map node_line m.router.table.entries
+    table_line name m ++ flat_map peers_lines m.router.ports ++ flat_map held_line m.router.table.entries
     ++ flat_map assigned_line m.router.held.assigned ++ flat_map backoff_line m.router.held.backoffs
 
 -- the delegated prefixes that it knows of, those of the nodes that it sees first, and those that it uses at its moment

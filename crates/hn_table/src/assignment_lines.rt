@@ -4,8 +4,8 @@ ghost use Rattle.std.specs.Prelude.{◌≡◌, ◌++◌, OnOk, string_bytes};
 ghost use Rattle.std.specs.List.{flat_map};
 ghost use Rattle.hn_table.specs.Lines.{assigned_line, backoff_line};
 
-use crate::words::yes_no;
 use hn_assign::{Assigned, Backoff};
+use hn_base::yes_no;
 use std::alloc::AllocError;
 use std::fmt;
 

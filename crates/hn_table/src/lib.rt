@@ -9,7 +9,6 @@ mod fate;
 mod outer;
 mod router_lines;
 mod table;
-mod words;
 
 pub use fate::one_fate;
 pub use table::table_text;

@@ -3,10 +3,9 @@
 ghost use Rattle.std.specs.Prelude.{◌≡◌, ◌++◌, OnOk, string_bytes};
 ghost use Rattle.std.specs.List.{flat_map};
 ghost use Rattle.hn_base.specs.Name.{name_text};
-ghost use Rattle.hn_table.specs.Lines.{table_line, peer_line, peers_lines, node_line};
+ghost use Rattle.hn_table.specs.Lines.{table_line, peer_line, peers_lines, held_line};
 
-use crate::words::yes_no;
-use hn_base::{EpId, Hex, Moment, Name};
+use hn_base::{yes_no, EpId, Hex, Moment, Name};
 use hn_dncp::{Neighbour, Port};
 use hn_prefix::address_text;
 use hn_store::HeldNode;
@@ -86,7 +85,7 @@ impl fmt::Display for Lost {
 
 /// Adds the line of a node that is held.
 fn push_node(text: &mut String, node: &HeldNode) -> Result<(), AllocError>
-    ensures { OnOk result (string_bytes text.new ≡ string_bytes text.old ++ node_line node.now) }
+    ensures { OnOk result (string_bytes text.new ≡ string_bytes text.old ++ held_line node.now) }
 {
     let id = node.id;
     let number = node.stored.number;
@@ -102,7 +101,7 @@ fn push_node(text: &mut String, node: &HeldNode) -> Result<(), AllocError>
 
 /// Adds a line for each node that is held.
 pub(crate) fn push_nodes(text: &mut String, nodes: &[HeldNode]) -> Result<(), AllocError>
-    ensures { OnOk result (string_bytes text.new ≡ string_bytes text.old ++ flat_map node_line nodes.now) }
+    ensures { OnOk result (string_bytes text.new ≡ string_bytes text.old ++ flat_map held_line nodes.now) }
 {
     for node in nodes {
         push_node(text, node)?;

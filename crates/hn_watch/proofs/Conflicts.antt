@@ -14,7 +14,7 @@ use Rattle.std.proofs.lemmas.Cmp.{ranked, eq_by_cmp_equiv}
 use Rattle.std.proofs.lemmas.Map.Views.{lookup-from_Contains, Contains-from_lookup, tells_apart, IsInRange-from_range_contains, range_contains-from_IsInRange}
 use Rattle.hn_base.proofs.Elements.{in_filter, from_filter}
 use Rattle.hn_watch.specs.Seen.{IsConflict}
-use Rattle.hn_watch.specs.Remembered.{is_differing, of_node, conflicts_in}
+use Rattle.hn_watch.specs.Remembered.{is_differing, places_of_node, conflicts_in}
 use Rattle.hn_watch.proofs.Orders.{number_total, exact_number}
 
 -- ---- the hashes that are shown with a node and a number
@@ -176,12 +176,12 @@ module _ (shown : List Shown) (fits : All (λ s. s.number < 2 ^ 32) shown) (es :
   number_in e = e.0.number
 
   abbrev found : List (NodeNumber × Option Claim)
-  found = filter differing (of_node node es)
+  found = filter differing (places_of_node node es)
 
   -- what is found is of the node, and there
   found_is : (e : NodeNumber × Option Claim) → Contains found e → Contains es e × (e.0.node ≡ node) × (is_differing e.1 ≡ true)
   found_is e there =
-      let passes = from_filter differing (of_node node es) e there in
+      let passes = from_filter differing (places_of_node node es) e there in
       let within = from_filter (λ (p : NodeNumber × Option Claim). range_contains number_cmp (Included (first_of node)) (Included (last_of node)) p.0) es e passes.0 in
       (within.0, range_node node e.0 within.1, passes.1)
 
@@ -220,15 +220,15 @@ module _ (shown : List Shown) (fits : All (λ s. s.number < 2 ^ 32) shown) (es :
       let entry : NodeNumber × Option Claim = (key, Some claim.0) in
       let there : Contains es entry = held_entry number_cmp number_total exact_number es up key claim.0 claim.1 in
       let fit : number < 2 ^ 32 = All-contains (λ (s : Shown). s.number < 2 ^ 32) shown (shown_with node number conflict.one) fits conflict.shows_one in
-      let within : Contains (of_node node es) entry = in_filter
+      let within : Contains (places_of_node node es) entry = in_filter
       (λ (p : NodeNumber × Option Claim). range_contains number_cmp (Included (first_of node)) (Included (last_of node)) p.0) es entry there (node_range node number fit) in
-      Contains-map number_in found entry (in_filter differing (of_node node es) entry within claim.2)
+      Contains-map number_in found entry (in_filter differing (places_of_node node es) entry within claim.2)
 
   pub are_conflicts : AreConflicts shown node (conflicts_in es node)
   are_conflicts = record {
     numbers = map number_in found;
     ascending = numbers_ascend node found (λ e there. (found_is e there).1)
-        (keys_ascend number_cmp differing (of_node node es) (keys_ascend number_cmp (λ p. range_contains number_cmp (Included (first_of node)) (Included (last_of node)) p.0) es up));
+        (keys_ascend number_cmp differing (places_of_node node es) (keys_ascend number_cmp (λ p. range_contains number_cmp (Included (first_of node)) (Included (last_of node)) p.0) es up));
     exactly = λ number. (to_conflict number, from_conflict number);
-    as_many = sym (length-map found number_in ∙ length-filter differing (of_node node es));
+    as_many = sym (length-map found number_in ∙ length-filter differing (places_of_node node es));
   }

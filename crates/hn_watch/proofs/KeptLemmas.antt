@@ -1,7 +1,7 @@
 -- What is kept of a node.
 use Rattle.hn_base.proofs.Names.{◌≡◌, ◌∙◌, ◌⊎◌, true, false, List, [], ◌∷◌, Option, Some, None, Contains, IfSome, IsSome, refl, sym, ap, subst, inl, inr, ⊎_elim, ◌==◌, ◌&&◌, cases_Bool, and_parts}
 use Rattle.hn_base.proofs.Names.{and_from, cond-true, cond-false, eqb-true, eq-eqb}
-use Rattle.hn_watch.proofs.Names.{NodeId, Contains-head, Contains-tail, Contains-cases, nothing_in, Shown, is_older, keeping, kept}
+use Rattle.hn_watch.proofs.Names.{NodeId, Contains-head, Contains-tail, Contains-cases, nothing_in, Shown, is_older, keeping, latest_of}
 use Rattle.std.proofs.Common.{fold}
 use Rattle.std.proofs.lemmas.Bool.{and_left, and_right}
 
@@ -59,14 +59,14 @@ kept_there node k (first ∷ shown) one there is =
     (Contains-cases first shown one there)
 
 -- what is kept of a node is shown, and of it
-pub kept_is : (node : NodeId) (shown : List Shown) (k : Shown) → kept node shown ≡ Some k → (k.node.0 ≡ node.0) × Contains shown k
+pub kept_is : (node : NodeId) (shown : List Shown) (k : Shown) → latest_of node shown ≡ Some k → (k.node.0 ≡ node.0) × Contains shown k
 kept_is node shown k is =
     subst (λ (o : Option Shown). IfSome o (λ s. (s.node.0 ≡ node.0) × Contains shown s)) is
     (kept_from node (λ s. (s.node.0 ≡ node.0) × Contains shown s) None tt shown (λ one there of_node. (of_node, there)))
 
 -- of a node that is shown something is kept
-pub kept_some : (node : NodeId) (shown : List Shown) (one : Shown) → Contains shown one → one.node ≡ node → (k : Shown) × (kept node shown ≡ Some k)
-kept_some node shown one there is = told (kept node shown) (kept_there node None shown one there (ap (λ (n : NodeId). n.0) is))
+pub kept_some : (node : NodeId) (shown : List Shown) (one : Shown) → Contains shown one → one.node ≡ node → (k : Shown) × (latest_of node shown ≡ Some k)
+kept_some node shown one there is = told (latest_of node shown) (kept_there node None shown one there (ap (λ (n : NodeId). n.0) is))
   where
     told : (o : Option Shown) → IsSome o → (k : Shown) × (o ≡ Some k)
     told None some = absurd cc

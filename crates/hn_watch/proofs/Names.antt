@@ -5,7 +5,7 @@ pub use Rattle.hn_base.specs.declared.ids.NodeId.{NodeId}
 pub use Rattle.hn_tlv.specs.View.{plain}
 pub use Rattle.hn_watch.specs.Claim.{IsClaimOf, hashes_of, number_cmp, number_of}
 pub use Rattle.hn_watch.specs.Remembered.{HasRoom, Remembers, RemembersSame, seen_of}
-pub use Rattle.hn_watch.specs.Seen.{AreConflicts, AreSeen, is_older, keeping, kept}
+pub use Rattle.hn_watch.specs.Seen.{AreConflicts, AreSeen, is_older, keeping, latest_of}
 pub use Rattle.hn_watch.specs.Shown.{AreShownBy, Shows}
 pub use Rattle.hn_watch.specs.declared.claim.Claim.{Claim}
 pub use Rattle.hn_watch.specs.declared.claim.NodeNumber.{NodeNumber}

@@ -1,7 +1,7 @@
 -- What is seen of the nodes: from what is remembered, and one list of it.
 use Rattle.hn_base.proofs.Names.{◌≡◌, ◌∙◌, ◌<◌, ◌^◌, ℕ, List, [], ◌∷◌, ◌++◌, length, map, Option, Some, None, Contains, refl, sym, ap, subst, AllByRecursion, filter_map, option_map, nat_cmp, Less}
 use Rattle.hn_base.proofs.Names.{IsOrdered, nat_cmp_total, All-head, All-tail, same_Some, map_push, node_cmp}
-use Rattle.hn_watch.proofs.Names.{All, option_to_list, NodeId, Contains-head, Contains-tail, Contains-map, Contains-from_map, same_node, Shown, Seen, Claim, NodeNumber, Remembered, number_cmp, kept}
+use Rattle.hn_watch.proofs.Names.{All, option_to_list, NodeId, Contains-head, Contains-tail, Contains-map, Contains-from_map, same_node, Shown, Seen, Claim, NodeNumber, Remembered, number_cmp, latest_of}
 use Rattle.hn_watch.proofs.Names.{AreConflicts, AreSeen, Remembers, seen_of}
 use Rattle.std.specs.List.Sorted.{IsStrictlySortedBy}
 use Rattle.hn_base.proofs.PartsAtPlaces.{filter_map-push}
@@ -49,7 +49,7 @@ module _ (shown : List Shown) (fits : All (λ s. s.number < 2 ^ 32) shown) (r : 
   abbrev all_seen : List Seen
   all_seen = filter_map (seen_at r.claims.entries) entries
 
-  entry_kept : (node : NodeId) (one : Shown) → Contains entries (node, Some one) → kept node shown ≡ Some one
+  entry_kept : (node : NodeId) (one : Shown) → Contains entries (node, Some one) → latest_of node shown ≡ Some one
   entry_kept node one there = sym (held.latest node) ∙ entry_held node_cmp node_total exact_node entries kept_up node one there
 
   own : AreOwn entries
@@ -122,7 +122,7 @@ same_conflicts shown node a b p q =
 same_seen : (shown : List Shown) (a b : Seen) → a.node ≡ b.node → IsSeen shown a → IsSeen shown b → a ≡ b
 same_seen shown a b node p q =
     let latest : Some (record { node = a.node; number = a.number; hash = a.hash }) ≡ Some (record { node = b.node; number = b.number; hash = b.hash }) =
-    sym p.latest ∙ ap (λ n. kept n shown) node ∙ q.latest in
+    sym p.latest ∙ ap (λ n. latest_of n shown) node ∙ q.latest in
     let same : ◌≡◌ {A = Shown} (record { node = a.node; number = a.number; hash = a.hash }) (record { node = b.node; number = b.number; hash = b.hash }) = same_Some _ _ latest in
     let count : a.conflicts ≡ b.conflicts = same_conflicts shown b.node a.conflicts b.conflicts (subst (λ (n : NodeId). AreConflicts shown n a.conflicts) node p.conflicts) q.conflicts in
     λ i. record { node = (same i).node; number = (same i).number; hash = (same i).hash; conflicts = count i }

@@ -53,12 +53,12 @@ is_differing None = false
 is_differing (Some claim) = claim.differs
 
 -- the places of a node's sequence numbers
-abbrev pub of_node : NodeId → List (NodeNumber × Option Claim) → List (NodeNumber × Option Claim)
-of_node node places = entries_between number_cmp (Included (record { node = node; number = 0 })) (Included (record { node = node; number = 2 ^ 32 - 1 })) places
+abbrev pub places_of_node : NodeId → List (NodeNumber × Option Claim) → List (NodeNumber × Option Claim)
+places_of_node node places = entries_between number_cmp (Included (record { node = node; number = 0 })) (Included (record { node = node; number = 2 ^ 32 - 1 })) places
 
 -- how many sequence numbers of a node have claims that differ
 abbrev pub conflicts_in : List (NodeNumber × Option Claim) → NodeId → ℕ
-conflicts_in places node = count_by (λ p. is_differing p.1) (of_node node places)
+conflicts_in places node = count_by (λ p. is_differing p.1) (places_of_node node places)
 
 -- what is seen of a node, of which this is kept
 abbrev pub seen_of : List (NodeNumber × Option Claim) → Shown → Seen

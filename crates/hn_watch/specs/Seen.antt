@@ -17,8 +17,8 @@ abbrev pub keeping : NodeId → Option Shown → Shown → Option Shown
 keeping node None one = if one.node.0 == node.0 then Some one else None
 keeping node (Some kept) one = if one.node.0 == node.0 && is_older kept.number one.number then Some one else Some kept
 
-abbrev pub kept : NodeId → List Shown → Option Shown
-kept node shown = fold (keeping node) None shown
+abbrev pub latest_of : NodeId → List Shown → Option Shown
+latest_of node shown = fold (keeping node) None shown
 
 -- the node is shown with the sequence number and two hashes
 pub record IsConflict (shown : List Shown) (node : NodeId) (number : ℕ) : Type 0 where
@@ -37,7 +37,7 @@ pub record AreConflicts (shown : List Shown) (node : NodeId) (count : ℕ) : Typ
 
 -- what is seen of a node: what is kept of it, and its conflicts
 pub record IsSeen (shown : List Shown) (seen : Seen) : Type 0 where
-  pub latest : kept seen.node shown ≡ Some (record { node = seen.node; number = seen.number; hash = seen.hash })
+  pub latest : latest_of seen.node shown ≡ Some (record { node = seen.node; number = seen.number; hash = seen.hash })
   pub conflicts : AreConflicts shown seen.node seen.conflicts
 
 -- one for each node that is shown, in ascending order

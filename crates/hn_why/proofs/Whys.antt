@@ -2,9 +2,9 @@
 use Rattle.hn_base.proofs.Names.{◌≡◌, ◌↔◌, ℕ, true, false, List, Option, None, Some, inl, inr, refl, subst, option_map_or}
 use Rattle.std.specs.Prelude.{IsTrue, IfSome}
 use Rattle.hn_audit.specs.FirstWitness.{IsFirstUnsettled, IsFirstUnquiet}
-use Rattle.hn_audit.specs.Quiet.{IsQuiet}
+use Rattle.hn_audit.specs.Quiet.{IsQuietByRules}
 use Rattle.hn_audit.specs.Reached.{runs}
-use Rattle.hn_audit.specs.Settled.{IsSettled}
+use Rattle.hn_audit.specs.Settled.{IsSettledByRules}
 use Rattle.hn_audit.specs.Witness.{Refutes, Disturbs}
 use Rattle.hn_audit.specs.declared.witness.Unquiet.{Unquiet}
 use Rattle.hn_audit.specs.declared.witness.Unsettled.{Unsettled}
@@ -30,7 +30,7 @@ pub record Finds {U : Type 0} (name : List ℕ) (w : Parts) (Holds : Member → 
   pub some : (r : Member) → member_named name w ≡ Some r → IfSome found (Fails r)
   pub first : (r : Member) → member_named name w ≡ Some r → First r found
 
-module _ (name : List ℕ) (w : Parts) (runs_so : IsTrue (runs name w)) (one : Option Unsettled) (finds : Finds name w (IsSettled w) (Refutes w) (IsFirstUnsettled w) one) where
+module _ (name : List ℕ) (w : Parts) (runs_so : IsTrue (runs name w)) (one : Option Unsettled) (finds : Finds name w (IsSettledByRules w) (Refutes w) (IsFirstUnsettled w) one) where
   pub unsettled_so : (why : Unsettled) (text : List ℕ) → one ≡ Some why → text ≡ unsettled_text name w why → IsWhy name w text
   unsettled_so why text is told =
       let m = member_of name w runs_so in (
@@ -45,7 +45,7 @@ module _ (name : List ℕ) (w : Parts) (runs_so : IsTrue (runs name w)) (one : O
         })),
       )
 
-  module _ (none : one ≡ None) (two : Option Unquiet) (finds_too : Finds name w (IsQuiet w) (Disturbs w) (IsFirstUnquiet w) two) where
+  module _ (none : one ≡ None) (two : Option Unquiet) (finds_too : Finds name w (IsQuietByRules w) (Disturbs w) (IsFirstUnquiet w) two) where
     pub unquiet_so : (why : Unquiet) (text : List ℕ) → two ≡ Some why → text ≡ unquiet_text name why → IsWhy name w text
     unquiet_so why text is told =
         let m = member_of name w runs_so in (

@@ -1,8 +1,8 @@
 -- Why a router is not settled, or not quiet.
 use Rattle.std.specs.Prelude.{◌≡◌, ◌⊎◌, ℕ, List, [], ◌∷◌, ◌++◌, codes, Some}
 use Rattle.hn_audit.specs.FirstWitness.{IsFirstUnsettled, IsFirstUnquiet}
-use Rattle.hn_audit.specs.Quiet.{IsQuiet}
-use Rattle.hn_audit.specs.Settled.{IsSettled}
+use Rattle.hn_audit.specs.Quiet.{IsQuietByRules}
+use Rattle.hn_audit.specs.Settled.{IsSettledByRules}
 use Rattle.hn_audit.specs.Witness.{Refutes, Disturbs}
 use Rattle.hn_audit.specs.declared.witness.Unquiet.{Unquiet}
 use Rattle.hn_audit.specs.declared.witness.Unsettled.{Unsettled}
@@ -28,14 +28,14 @@ unsettled_text name w why =
 
 -- r, which has this name, is settled and quiet
 pub record IsQuietSo (name : List ℕ) (w : Parts) (r : Member) (text : List ℕ) : Type 0 where
-  pub settled : IsSettled w r
-  pub quiet : IsQuiet w r
+  pub settled : IsSettledByRules w r
+  pub quiet : IsQuietByRules w r
   pub text_is : text ≡ quiet_text name
 
 -- it is settled, and not quiet: a witness disturbs it, the first in the order of the definition
 pub record IsUnquietSo (name : List ℕ) (w : Parts) (r : Member) (text : List ℕ) : Type 0 where
-  pub settled : IsSettled w r
-  pub unquiet : ¬ IsQuiet w r
+  pub settled : IsSettledByRules w r
+  pub unquiet : ¬ IsQuietByRules w r
   pub why : Unquiet
   pub disturbs : Disturbs w r why
   pub first : IsFirstUnquiet w r (Some why)
@@ -43,7 +43,7 @@ pub record IsUnquietSo (name : List ℕ) (w : Parts) (r : Member) (text : List �
 
 -- it is not settled: a witness refutes it, the first in the order of the definition
 pub record IsUnsettledSo (name : List ℕ) (w : Parts) (r : Member) (text : List ℕ) : Type 0 where
-  pub unsettled : ¬ IsSettled w r
+  pub unsettled : ¬ IsSettledByRules w r
   pub why : Unsettled
   pub refutes : Refutes w r why
   pub first : IsFirstUnsettled w r (Some why)

@@ -11,7 +11,7 @@ use Rattle.hn_world.proofs.MorePublished.{Includes, includes_front, collide_more
 use Rattle.hn_router.specs.Laws.{IsTrusted, GenuineStays}
 use Rattle.hn_world.specs.declared.event.WEvent.TheVariants as event
 use Rattle.hn_world.specs.Authentic.{IsFromWithin, IsAuthentic}
-use Rattle.hn_world.specs.Step.{Delivers, Drops}
+use Rattle.hn_world.specs.Step.{DeliversCopy, Drops}
 use Rattle.hn_world.proofs.CopiesAsSent.{copied, still_copied}
 use Rattle.hn_world.proofs.OneStep.{Any, trace_of_step}
 use Rattle.hn_world.proofs.SoundRouters.{StayLaws, KeepsRouters, beside_keeps, sound_step, replay_keeps, all_at}
@@ -134,7 +134,7 @@ module _ (laws : AuthenticLaws) where
   genuine_taken copy mail w one (inl genuine) = inl (record { routers = genuine.routers; copies = still_copied (BytesSayPublished w.published) copy mail w one genuine.copies })
   genuine_taken copy mail w one (inr collide) = inr collide
 
-  genuine_delivered : (copy : ℕ) (words : List ℕ) (notes : List Note) (before after : Parts) → Delivers copy words notes before after → IsSoundWorld before → IsGenuineOr before → IsGenuineOr after
+  genuine_delivered : (copy : ℕ) (words : List ℕ) (notes : List Note) (before after : Parts) → DeliversCopy copy words notes before after → IsSoundWorld before → IsGenuineOr before → IsGenuineOr after
   genuine_delivered copy words notes before after h sound (inr collide) =
       subst IsGenuineOr (sym h.gives) (inr (collide_at (λ m. m) h.mail.to.place _ words notes before h.between h.acts collide))
   genuine_delivered copy words notes before after h sound (inl genuine) =

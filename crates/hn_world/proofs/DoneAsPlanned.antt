@@ -3,7 +3,7 @@ use Rattle.hn_base.proofs.Names.{option_map, ◌≡◌, ◌∙◌, ℕ, ◌^◌,
 use Rattle.hn_base.proofs.Names.{ap, arith, append-nil, slice_get_within, slice_get-get_or, common_steps, name_text, Drew}
 use Rattle.hn_world.proofs.Names.{◌==◌, none_passes, NodeId, Name, PlainEvent, Arrive, Tick, IsEventInRange, Happened, nothing, after_passing, at_moment, Note, Publication, State, MailCopy, WEvent}
 use Rattle.hn_world.proofs.Names.{Traced, Member, Parts, table_limit, is_named, router_place, member_named, IsPlanned, refusal, copy_at, IsSoundWorld, IsSoundMember, routed, named_by, place_by}
-use Rattle.hn_world.proofs.Names.{ActsAt, Acts, DoesAt, Step, IsStep, IsWorldEventInRange, FitsAt, acted, beside, entered, with_member, stopped, taken}
+use Rattle.hn_world.proofs.Names.{ActsAt, RouterActs, DoesAt, Step, IsStep, IsWorldEventInRange, FitsAt, acted, beside, entered, with_member, stopped, taken}
 use Rattle.std.specs.Prelude.{IfSome}
 use Rattle.hn_base.proofs.FrontOfList.{find-none}
 use Rattle.hn_rules.specs.declared.arrival.passing.Passing.{Passing}
@@ -83,7 +83,7 @@ module _ (change : Member → Member) (place : ℕ) (event : PlainEvent) (told t
       → change next_member ≡ beside t before next_member → IsFinished t change place before plan after → notes ≡ plan.done.notes → IsStep t notes told told_after before after
   acted_step t name after notes accepted in_range fits is found same gives noted =
       let named : place_by (named_by t) before ≡ router_place (name_text name) before = ap (λ (o : Option Name). place_by o before) (named_routed t (name, event) is) in
-      let acts : Acts (beside t before) name event plan.done.words notes before did = record { place = place; is_place = sym named ∙ found; acts = acts_at (beside t before) notes same noted } in
+      let acts : RouterActs (beside t before) name event plan.done.words notes before did = record { place = place; is_place = sym named ∙ found; acts = acts_at (beside t before) notes same noted } in
       record {
         words = plan.done.words;
         step = record {

@@ -41,7 +41,7 @@ pub use Rattle.hn_world.specs.Planned.{IsPlanned}
 pub use Rattle.hn_world.specs.Refusal.{copy_at, named_member, refusal}
 pub use Rattle.hn_world.specs.Replay.{AreAttached, Goes, IsReplayed, IsSoundMember, IsSoundWorld, Replays, empty_world}
 pub use Rattle.hn_world.specs.Routed.{named_by, place_by, routed}
-pub use Rattle.hn_world.specs.Step.{Acts, ActsAt, DoesAt, DoesElse, FitsAt, IsStep, IsWorldEventInRange, RouterBegins, Step, Stops, acted, attached_to, beside, entered, stopped, taken, with_member}
+pub use Rattle.hn_world.specs.Step.{RouterActs, ActsAt, DoesAt, DoesElse, FitsAt, IsStep, IsWorldEventInRange, RouterBegins, Step, Stops, acted, attached_to, beside, entered, stopped, taken, with_member}
 pub use Rattle.hn_world.specs.Waiting.{bytes_of_copies, first_waiting}
 pub use Rattle.hn_world.specs.Within.{AreWithinLimits}
 pub use Rattle.hn_world.specs.declared.copies.MailCopy.{MailCopy}

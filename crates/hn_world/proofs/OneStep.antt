@@ -1,7 +1,7 @@
 -- An event over one stream of words has at most one result, and a trace leads to at most one world.
 use Rattle.hn_base.proofs.Names.{◌≡◌, ◌∙◌, ◌+◌, ℕ, true, List, [], ◌∷◌, ◌++◌, length, Option, Some, None, refl, sym, subst, ap, append_assoc, zero-add, slice_index, slice_get, arith, append-nil}
 use Rattle.hn_base.proofs.Names.{same_Some}
-use Rattle.hn_world.proofs.Names.{NodeId, Name, Done, Note, State, PlainEvent, Happened, MailCopy, WEvent, Traced, Version, Member, Parts, table_limit, routed, ActsAt, Acts, RouterBegins, Stops}
+use Rattle.hn_world.proofs.Names.{NodeId, Name, Done, Note, State, PlainEvent, Happened, MailCopy, WEvent, Traced, Version, Member, Parts, table_limit, routed, ActsAt, RouterActs, RouterBegins, Stops}
 use Rattle.hn_world.proofs.Names.{DoesElse, DoesAt, Step, IsStep, acted, beside, entered, with_member, stopped, taken, empty_world, Goes}
 use Rattle.hn_base.specs.Words as drawn
 use Rattle.hn_router.specs.Laws.{OneResult, NewIsUnique}
@@ -47,7 +47,7 @@ module _ (laws : HasLaws) (stream : ℕ → ℕ) where
       }
 
   one_acts : (change : Member → Member) (name : Name) (event : PlainEvent) (v w : List ℕ) (m n : List Note) (before a b : Parts) → drawn.Begins v stream → drawn.Begins w stream
-      → Acts change name event v m before a → Acts change name event w n before b → AreOne v w m n a b
+      → RouterActs change name event v m before a → RouterActs change name event w n before b → AreOne v w m n a b
   one_acts change name event v w m n before a b begins begun h k =
       let place : h.place ≡ k.place = same_Some h.place k.place (sym h.is_place ∙ k.is_place) in
       one_acts_at change h.place event v w m n before a b begins begun h.acts (subst (λ (at : ℕ). ActsAt change at event w n before b) (sym place) k.acts)

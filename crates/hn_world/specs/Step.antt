@@ -49,7 +49,7 @@ pub record ActsAt (change : Member → Member) (place : ℕ) (event : PlainEvent
   pub gives : after ≡ acted change place member next done before
 
 -- and so to the router of a name
-pub record Acts (change : Member → Member) (name : Name) (event : PlainEvent) (words : List ℕ) (notes : List Note) (before after : Parts) : Type 0 where
+pub record RouterActs (change : Member → Member) (name : Name) (event : PlainEvent) (words : List ℕ) (notes : List Note) (before after : Parts) : Type 0 where
   pub place : ℕ
   pub is_place : router_place (name_text name) before ≡ Some place
   pub acts : ActsAt change place event words notes before after
@@ -103,7 +103,7 @@ abbrev pub taken : ℕ → MailCopy → Parts → Parts
 taken copy c w = record w { copies = slice_set w.copies (copy - 1) (record c { waiting = false }) }
 
 -- a copy is delivered to its endpoint
-pub record Delivers (copy : ℕ) (words : List ℕ) (notes : List Note) (before after : Parts) : Type 0 where
+pub record DeliversCopy (copy : ℕ) (words : List ℕ) (notes : List Note) (before after : Parts) : Type 0 where
   pub mail : MailCopy
   pub is_copy : slice_get before.copies (copy - 1) ≡ Some mail
   pub between : Parts
@@ -122,13 +122,13 @@ DoesElse (event.Router name id) words notes before after = RouterBegins name id 
 DoesElse (event.Link name) words notes before after = Quietly (record before { links = before.links ++ name ∷ [] }) words notes after
 DoesElse (event.Stop name) words notes before after = Stops name words notes before after
 DoesElse (event.Time moment) words notes before after = Quietly (record before { moment = moment }) words notes after
-DoesElse (event.Deliver copy) words notes before after = Delivers copy words notes before after
+DoesElse (event.Deliver copy) words notes before after = DeliversCopy copy words notes before after
 DoesElse (event.Drop copy) words notes before after = Drops copy words notes before after
 DoesElse _ words notes before after = ⊥
 
 -- what an event does: what happens at its router, with what changes beside it, or else
 abbrev pub DoesAt : WEvent → Option (Name × PlainEvent) → List ℕ → List Note → Parts → Parts → Type 0
-DoesAt event (Some own) words notes before after = Acts (beside event before) own.0 own.1 words notes before after
+DoesAt event (Some own) words notes before after = RouterActs (beside event before) own.0 own.1 words notes before after
 DoesAt event None words notes before after = DoesElse event words notes before after
 
 abbrev pub Does : WEvent → List ℕ → List Note → Parts → Parts → Type 0

@@ -1,5 +1,5 @@
 use Rattle.hn_base.proofs.Names.{rules, ◌≡◌, IsTrue, true, false, inl, inr, refl, name_text}
-use Rattle.hn_lab.proofs.Names.{IsAddressStill, IsSettled, Member, AreAddressesStill}
+use Rattle.hn_lab.proofs.Names.{IsAddressStill, IsSettledByRules, Member, AreAddressesStill}
 use Rattle.hn_lab.proofs.AddressSets.{are_alone}
 use Rattle.hn_lab.proofs.Sets.{IsKnown, answers_of, named_runs}
 use Rattle.hn_lab.proofs.address_reports.addressed.Goals as goal
@@ -15,7 +15,7 @@ returns-then-not-branch-2 c =
     let m = c.args.member.now in
     let yes : c.in_ok-settled.field-0 ≡ true = search rules in
     let no : c.in_ok-all_still.field-0 ≡ false = search rules in
-    let settled : IsSettled w m = (c.in_ok-settled.ensures m c.requires.named).0 yes in
+    let settled : IsSettledByRules w m = (c.in_ok-settled.ensures m c.requires.named).0 yes in
     let law = answers_of (λ (s : Member). IsAddressStill s.router) w m c.in_ok-all_still.field-0 c.reach.result.now c.members.result.now c.reach.ensures c.members.ensures
     c.in_ok-all_still.ensures in
     let busy : ¬ AreAddressesStill w m = λ still. let rests : IsTrue c.in_ok-all_still.field-0 = law.1 still.1 in absurd cc in
@@ -27,7 +27,7 @@ returns c =
     let m = c.args.member.now in
     let yes : c.in_ok-settled.field-0 ≡ true = search rules in
     let rests : c.in_ok-all_still.field-0 ≡ true = search rules in
-    let settled : IsSettled w m = (c.in_ok-settled.ensures m c.requires.named).0 yes in
+    let settled : IsSettledByRules w m = (c.in_ok-settled.ensures m c.requires.named).0 yes in
     let law = answers_of (λ (s : Member). IsAddressStill s.router) w m c.in_ok-all_still.field-0 c.reach.result.now c.members.result.now c.reach.ensures c.members.ensures
     c.in_ok-all_still.ensures in
     let still : AreAddressesStill w m = (settled, law.0 rests) in

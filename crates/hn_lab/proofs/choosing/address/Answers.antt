@@ -1,5 +1,5 @@
 use Rattle.hn_base.proofs.Names.{◌∙◌, [], Option, None, Some, inl, refl, sym, subst}
-use Rattle.hn_lab.proofs.Names.{IsChoice, WEvent, Refused, chosen_event, MayHappen, Leaves, OtherEnds, Stage, stage_of, words_of}
+use Rattle.hn_lab.proofs.Names.{IsChoice, WEvent, Refused, chosen_event, MayHappen, Leaves, OtherEnds, Stage, stage_of, stream_words}
 use Rattle.hn_script.specs.declared.line.Line.TheVariants as line
 use Rattle.hn_lab.proofs.Choosings.{has_chosen, choice_refused, choice_left}
 use Rattle.hn_lab.proofs.RunAnswers.{no_memory, answer_on}
@@ -16,7 +16,7 @@ returns-in_err-may_happen c route text =
     let name = c.args.name in
     let made = c.in_ok-choice.choice in
     let p = stage_of c.args.playing.now route text in
-    let s : Stage = record p { words = words_of c.choose.new.draw } in
+    let s : Stage = record p { words = stream_words c.choose.new.draw } in
     let a = stage_of c.may_happen.new.playing route text in
     let chosen = has_chosen name IsChoice (chosen_event name) (λ made. []) made c.running-router.result.now p s
     (sym c.unless_runs.ensures ∙ c.in_default.is) c.running-router.ensures c.in_ok-choice.ensures.chosen refl in
@@ -32,7 +32,7 @@ returns c route text =
     let name = c.args.name in
     let made = c.in_ok-choice.choice in
     let p = stage_of c.args.playing.now route text in
-    let s : Stage = record p { words = words_of c.choose.new.draw } in
+    let s : Stage = record p { words = stream_words c.choose.new.draw } in
     let a = stage_of c.may_happen.new.playing route text in
     let chosen = has_chosen name IsChoice (chosen_event name) (λ made. []) made c.running-router.result.now p s
     (sym c.unless_runs.ensures ∙ c.in_default.is) c.running-router.ensures c.in_ok-choice.ensures.chosen refl in

@@ -1,5 +1,5 @@
 use Rattle.hn_base.proofs.Names.{◌≡◌, ℕ, List, [], Option, None, Result, inl, refl, sym, subst}
-use Rattle.hn_lab.proofs.Names.{WEvent, WorldFault, Stop, EventEnds, Follows, Sets, IsAnswered, stopping, Process, ThenProcess, TickEnds, ending, ending_all, Stage, stage_of, EndsWriting}
+use Rattle.hn_lab.proofs.Names.{WEvent, WorldFault, Stop, EventEnds, Follows, Sets, IsAnswered, stopping, Process, ThenProcess, TickEnds, ended_sending, ending_all, Stage, stage_of, EndsWriting}
 use Rattle.hn_world.specs.declared.event.WEvent.TheVariants as event
 use Rattle.hn_lab.proofs.RunAnswers.{ends_so}
 use Rattle.hn_lab.proofs.RunEvents.{event_ends}
@@ -31,7 +31,7 @@ returns-in-Tick-clause-ends g c route text =
 pub returns-in-Detach-clause-ends : goal.returns-in-Detach-clause-ends
 returns-in-Detach-clause-ends g c route text =
     let p = stage_of c.args.playing.now route text in
-    set_after c.args.event (event.Detach c.in-Detach.name c.in-Detach.endpoint) (ending c.in-Detach.name c.in-Detach.endpoint) c.detach.result c.stopping.result p
+    set_after c.args.event (event.Detach c.in-Detach.name c.in-Detach.endpoint) (ended_sending c.in-Detach.name c.in-Detach.endpoint) c.detach.result c.stopping.result p
     (stage_of c.detach.new.playing route text) _ c.in-Detach.is (λ stop at h. h) c.stopping.ensures.same refl refl (c.detach.ensures route text)
 
 pub returns-in-Stop-clause-ends : goal.returns-in-Stop-clause-ends

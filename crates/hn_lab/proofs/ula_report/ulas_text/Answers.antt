@@ -1,5 +1,5 @@
 use Rattle.hn_base.proofs.Names.{rules, ◌≡◌, IsTrue, true, false, List, filter, inl, inr, name_text}
-use Rattle.hn_lab.proofs.Names.{is_in_set, IsSettled, IsUlaStill, Member, ArePrefixesStill, HaveGenerated}
+use Rattle.hn_lab.proofs.Names.{is_in_set, IsSettledByRules, IsUlaStill, Member, ArePrefixesStill, HaveGenerated}
 use Rattle.hn_lab.proofs.UlaSets.{ula_count}
 use Rattle.hn_lab.proofs.Sets.{IsKnown, answers_of, list_of, named_runs}
 use Rattle.hn_lab.proofs.ula_report.ulas_text.Goals as goal
@@ -15,7 +15,7 @@ returns-then-not-branch-2 c =
     let m = c.args.member.now in
     let yes : c.in_ok-settled.field-0 ≡ true = search rules in
     let no : c.in_ok-all_still.field-0 ≡ false = search rules in
-    let settled : IsSettled w m = (c.in_ok-settled.ensures m c.requires.named).0 yes in
+    let settled : IsSettledByRules w m = (c.in_ok-settled.ensures m c.requires.named).0 yes in
     let law = answers_of (λ (s : Member). IsUlaStill s.router) w m c.in_ok-all_still.field-0 c.reach-reach.result.now c.members-members.result.now c.reach-reach.ensures
     c.members-members.ensures c.in_ok-all_still.ensures in
     let busy : ¬ ArePrefixesStill w m = λ still. let rests : IsTrue c.in_ok-all_still.field-0 = law.1 still.1 in absurd cc in
@@ -29,7 +29,7 @@ returns c =
     let members = c.members-members.result.now in
     let yes : c.in_ok-settled.field-0 ≡ true = search rules in
     let rests : c.in_ok-all_still.field-0 ≡ true = search rules in
-    let settled : IsSettled w m = (c.in_ok-settled.ensures m c.requires.named).0 yes in
+    let settled : IsSettledByRules w m = (c.in_ok-settled.ensures m c.requires.named).0 yes in
     let law = answers_of (λ (s : Member). IsUlaStill s.router) w m c.in_ok-all_still.field-0 reach members c.reach-reach.ensures c.members-members.ensures c.in_ok-all_still.ensures in
     let still : ArePrefixesStill w m = (settled, law.0 rests) in
     let known : IsKnown w m = record {

@@ -1,5 +1,5 @@
 use Rattle.hn_base.proofs.ExactRules.{exact_by}
-use Rattle.hn_rules.proofs.Names.{IsAttaching, words_of, IsExpiry, IsPortsTick}
+use Rattle.hn_rules.proofs.Names.{IsAttaching, words_taken, IsExpiry, IsPortsTick}
 use Rattle.hn_rules.proofs.ExactRefreshes.{RefreshLaws, Well, Any, exact_refresh}
 use Rattle.hn_rules.proofs.ExactArrivals.{ArrivalLaws, sole_arrival, total_arrival}
 use Rattle.hn_rules.proofs.SomeWishes.{AskingLaws}
@@ -55,10 +55,10 @@ returns c =
       refresh = exact_refresh refresh;
       one_arrival = λ from tlvs. sole_arrival arrival from tlvs;
       arrival = λ from tlvs valid. total_arrival arrival from tlvs valid;
-      expiry = exact_by words_of Well Any IsExpiry (λ r is. tt) exact_expiry;
+      expiry = exact_by words_taken Well Any IsExpiry (λ r is. tt) exact_expiry;
       assigning = exact_assigning assigning;
-      ports = exact_by words_of Well Any IsPortsTick (λ r is. tt) (exact_ports_tick sending);
+      ports = exact_by words_taken Well Any IsPortsTick (λ r is. tt) (exact_ports_tick sending);
       tick = exact_tick tick;
-      attaching = λ at. exact_by words_of Well Any (IsAttaching at) (λ r is. tt) (exact_attaching at);
+      attaching = λ at. exact_by words_taken Well Any (IsAttaching at) (λ r is. tt) (exact_attaching at);
       restarting = exact_restarting refresh;
     }

@@ -1,7 +1,7 @@
 use Rattle.hn_base.proofs.Names.{◌∙◌, ℕ, [], ◌∷◌, ◌++◌, Some, Err, inl, inr, refl, sym, ap, subst, lit<, Begins}
 use Rattle.hn_run.proofs.Names.{One, refused_line, plain_call}
 use Rattle.hn_io.specs.Pcg.{pcg_word}
-use Rattle.hn_node.specs.Turns.{serving, words_of}
+use Rattle.hn_node.specs.Turns.{serving, logged_words}
 use Rattle.hn_run.proofs.Nodes.{status_of, not_done, starved, unserved, told_served, within_told, begins_seed, ended}
 use Rattle.hn_run.proofs.NinthPrefix.{overfull_sets_none_up}
 use Rattle.hn_run.proofs.Setups.{limit_of_set_up}
@@ -81,7 +81,7 @@ returns-in-Ok-serve-clause-node g c bytes file =
     let told = told_served call c.tell.result.status s first last readings rest a b (rw (← c.from.ensures) c.in-Ok-serve.ensures.turns)
     (rw (← c.from.ensures) c.in-Ok-serve.ensures.cut) c.tell.ensures.told
     (λ fails. let untold = c.tell.ensures.untold fails in (untold.0, rw untold.1 (Appends-none a))) in
-    let drew = c.words_join.ensures (Some stream) _ _ up.0 (words_of s.log) up.2 c.in-Ok-serve.ensures.words in (
+    let drew = c.words_join.ensures (Some stream) _ _ up.0 (logged_words s.log) up.2 c.in-Ok-serve.ensures.words in (
       told.text,
       inr (inl (record {
         s = s;
@@ -94,7 +94,7 @@ returns-in-Ok-serve-clause-node g c bytes file =
           words = up.0;
           router = c.in-Ok.router;
           set_up = up.1;
-          drew = subst (λ x. Begins (up.0 ++ words_of s.log) (pcg_word x)) c.new-draw.ensures (begins_seed stream _ (up.0 ++ words_of s.log) drew);
+          drew = subst (λ x. Begins (up.0 ++ logged_words s.log) (pcg_word x)) c.new-draw.ensures (begins_seed stream _ (up.0 ++ logged_words s.log) drew);
           taken_is = c.in-Ok-serve.ensures.taken;
           ends = told.ends;
         };

@@ -1,12 +1,12 @@
 use Rattle.hn_base.proofs.Names.{name_text}
-use Rattle.hn_audit.proofs.Names.{IsSoundWorld, IsQuiet}
+use Rattle.hn_audit.proofs.Names.{IsSoundWorld, IsQuietByRules}
 use Rattle.hn_audit.proofs.QuietSets.{quiet_is_fixed, quiet_or_acts, unchanged_is_quiet, named_runs}
 use Rattle.hn_audit.proofs.Searching.{told_none}
 use Rattle.hn_audit.proofs.audit.WorldAudit.quiet.Goals as goal
 
 pub returns-clause-quiet : goal.returns-clause-quiet
 returns-clause-quiet c m named =
-    told_none c.in_ok-unquiet.field-0 c.is_none.result (IsQuiet c.args.self.now m) c.is_none.ensures (c.in_ok-unquiet.ensures.none m named)
+    told_none c.in_ok-unquiet.field-0 c.is_none.result (IsQuietByRules c.args.self.now m) c.is_none.ensures (c.in_ok-unquiet.ensures.none m named)
 
 pub returns-clause-unchanged : goal.returns-clause-unchanged
 returns-clause-unchanged c m named =

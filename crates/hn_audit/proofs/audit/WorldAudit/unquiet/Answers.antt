@@ -1,5 +1,5 @@
 use Rattle.hn_base.proofs.Names.{◌≡◌, ◌↔◌, ◌∙◌, IfSome, None, subst, same_Some}
-use Rattle.hn_audit.proofs.Names.{Member, IsFirstUnquiet, IsQuiet, Disturbs}
+use Rattle.hn_audit.proofs.Names.{Member, IsFirstUnquiet, IsQuietByRules, Disturbs}
 use Rattle.hn_audit.proofs.Disturbing.{first_tells}
 use Rattle.hn_audit.proofs.audit.WorldAudit.unquiet.Goals as goal
 
@@ -9,7 +9,7 @@ returns-clause-none c m named =
     let r = c.in-Some.r.now in
     let found = c.in_ok-found.found in
     let same : r ≡ m = same_Some r m (c.in-Some.ensures ∙ named) in
-    subst (λ (n : Member). (found ≡ None) ↔ IsQuiet w n) same (first_tells c.witness_refutes.ensures.quiet w r found c.in_ok-found.ensures).0
+    subst (λ (n : Member). (found ≡ None) ↔ IsQuietByRules w n) same (first_tells c.witness_refutes.ensures.quiet w r found c.in_ok-found.ensures).0
 
 pub returns-clause-some : goal.returns-clause-some
 returns-clause-some c m named =

@@ -1,5 +1,5 @@
 use Rattle.hn_base.proofs.Names.{◌≡◌, ◌↔◌, ◌∙◌, IfSome, None, subst, same_Some}
-use Rattle.hn_audit.proofs.Names.{Member, IsFirstUnsettled, IsSettled, Refutes}
+use Rattle.hn_audit.proofs.Names.{Member, IsFirstUnsettled, IsSettledByRules, Refutes}
 use Rattle.hn_audit.proofs.Judging.{first_says}
 use Rattle.hn_audit.proofs.audit.WorldAudit.unsettled.Goals as goal
 
@@ -9,7 +9,7 @@ returns-clause-none c m named =
     let r = c.in-Some.r.now in
     let found = c.in_ok-found.found in
     let same : r ≡ m = same_Some r m (c.in-Some.ensures ∙ named) in
-    subst (λ (n : Member). (found ≡ None) ↔ IsSettled w n) same (first_says w r found c.in_ok-found.ensures).0
+    subst (λ (n : Member). (found ≡ None) ↔ IsSettledByRules w n) same (first_says w r found c.in_ok-found.ensures).0
 
 pub returns-clause-some : goal.returns-clause-some
 returns-clause-some c m named =

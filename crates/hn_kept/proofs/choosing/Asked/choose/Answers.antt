@@ -4,7 +4,7 @@ use Rattle.hn_assign.specs.declared.held.Held.{Held}
 use Rattle.hn_kept.specs.declared.preferred.Preferred.{Preferred}
 use Rattle.hn_kept.specs.Preferred.{is_missed}
 use Rattle.hn_kept.specs.Words.{listed_word, AreDrawn}
-use Rattle.hn_kept.specs.Choosing.{PlainAsked, plain_asked, ComesTo, kept_in, IsNoBetter}
+use Rattle.hn_kept.specs.Choosing.{PlainAsked, plain_asked, EventComesTo, kept_in, IsNoBetter}
 use Rattle.hn_kept.proofs.Choosings.{comes_again, drawn_own, missed_among, chosen_of, of_none, of_some}
 use Rattle.hn_kept.proofs.choosing.Asked.choose.Goals as goal
 
@@ -27,7 +27,7 @@ loop-preserved c =
     let more : c.kept-kept.result < kept_in ask c.better.new.seen =
     of_some (λ _. c.kept-kept.result < kept_in ask c.better.new.seen) found others c.in-Some.is c.in_ok-found.ensures.more in
     record {
-      comes = of_some (λ (ws : List ℕ). ComesTo ask (listed_word ws ask.words) ws c.better.new.seen) found others c.in-Some.is c.in_ok-found.ensures.comes;
+      comes = of_some (λ (ws : List ℕ). EventComesTo ask (listed_word ws ask.words) ws c.better.new.seen) found others c.in-Some.is c.in_ok-found.ensures.comes;
       drawn = of_some (AreDrawn ask.preferred ask.words) found others c.in-Some.is c.in_ok-found.ensures.drawn;
       many = omega (arith, many, kept, more);
     }

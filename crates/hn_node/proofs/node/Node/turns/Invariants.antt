@@ -1,5 +1,5 @@
 use Rattle.hn_base.proofs.Names.{◌≡◌, ◌≤◌, List}
-use Rattle.hn_node.proofs.Names.{Logged, serving, handed_in, Turns, plain_site, Grows}
+use Rattle.hn_node.proofs.Names.{Logged, serving, handed_in, AreTurns, plain_site, Grows}
 use Rattle.hn_node.proofs.node.Node.turns.Given as goal
 
 abbrev pub invariant-loop : goal.invariant-loop
@@ -8,7 +8,7 @@ invariant-loop g l =
     let time = g.C.Clock in
     let random = g.D.Draw in
     record {
-      so_far : (log : List Logged) × Turns (plain_site l.fn.site) l.counter log (serving l.fn.self.router (outside.waiting l.fn.wire))
+      so_far : (log : List Logged) × AreTurns (plain_site l.fn.site) l.counter log (serving l.fn.self.router (outside.waiting l.fn.wire))
           (serving l.self.router (outside.waiting l.wire)) (time.readings l.fn.clock) (time.readings l.clock)
           × Grows log (handed_in (plain_site l.fn.site) log) (random.words l.fn.draw) (random.words l.draw) l.fn.self l.self;
       past : l.self.router.moment ≤ time.last l.clock;

@@ -1,5 +1,5 @@
 use Rattle.hn_base.proofs.Names.{refl, subst, on_ok_weaker}
-use Rattle.hn_rules.proofs.Names.{words_of, ArePorts, IsRefresh, ran_plain}
+use Rattle.hn_rules.proofs.Names.{words_taken, ArePorts, IsRefresh, ran_plain}
 use Rattle.hn_rules.proofs.ReachStays.{reach_rests}
 use Rattle.hn_rules.proofs.RefreshChangesNothing.{recent_now, same_refresh}
 use Rattle.hn_rules.proofs.Refreshes.{fresh_refresh}
@@ -12,7 +12,7 @@ returns-then-recent-clause-ran g c =
     let recent = c.is_recent-recent.ensures in
     let fresh = recent_now c.reachability_stays.ensures c.get-now.result r.state c.get-now.ensures.moment (c.requires.untouched c.if-not-touched.true)
     (recent.young c.if-recent.true) (recent.leads c.if-recent.true) in
-    ran_plain words_of IsRefresh _ r r (same_refresh r fresh) refl
+    ran_plain words_taken IsRefresh _ r r (same_refresh r fresh) refl
 
 pub returns-then-recent-clause-fresh : goal.returns-then-recent-clause-fresh
 returns-then-recent-clause-fresh g c =

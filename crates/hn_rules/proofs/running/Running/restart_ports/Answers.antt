@@ -1,8 +1,8 @@
 use Rattle.hn_base.proofs.Names.{refl}
-use Rattle.hn_rules.proofs.Names.{AtPort, words_of, IsPortRestart, ran_next}
+use Rattle.hn_rules.proofs.Names.{AtPort, words_taken, IsPortRestart, ran_next}
 use Rattle.hn_rules.proofs.running.Running.restart_ports.Goals as goal
 
 pub loop-at-preserved : goal.loop-at-preserved
 loop-at-preserved g c =
-    ran_next words_of (λ at. AtPort at IsPortRestart) c.deref-at-items.result.now c.loop-at.at-index _ (record { 0 = 0 }) _ _ _ c.args.self.now c.loop-at.self c.restart_port.new.self
+    ran_next words_taken (λ at. AtPort at IsPortRestart) c.deref-at-items.result.now c.loop-at.at-index _ (record { 0 = 0 }) _ _ _ c.args.self.now c.loop-at.self c.restart_port.new.self
     c.loop-at-test.true refl c.loop-at.invariant c.in_ok-restart_port.ensures

@@ -1,5 +1,5 @@
 use Rattle.hn_base.proofs.Names.{◌∙◌, ℕ, ap, refl, sym, subst, inl, inr}
-use Rattle.hn_rules.proofs.Names.{tick_sends, ran_plain, ArePorts, port_at, IsPortStill, AtPort, words_of, IsPortTick}
+use Rattle.hn_rules.proofs.Names.{tick_sends, ran_plain, ArePorts, port_at, IsPortStill, AtPort, words_taken, IsPortTick}
 use Rattle.hn_rules.proofs.AtPorts.{at_port}
 use Rattle.hn_rules.proofs.Resting.{port_rests}
 use Rattle.hn_rules.proofs.Ticking.{port_ticks}
@@ -12,7 +12,7 @@ returns-then-is_still g c =
     let ports = c.get-ports.ensures in
     let still = subst (λ (now : ℕ). IsPortStill now port) c.get.ensures.moment (c.is_still.ensures.0 c.if-is_still.true) in
     let rests = port_rests c.still_port.ensures c.args.at port r (subst ArePorts ports c.as_slice-kept.ensures.kept) (sym (c.in-Some.ensures ∙ ap (port_at c.args.at) ports)) still in
-    ran_plain words_of (AtPort c.args.at IsPortTick) _ r r (at_port c.args.at port c.get-ports.result.now IsPortTick r r c.in-Some.ensures ports rests) refl
+    ran_plain words_taken (AtPort c.args.at IsPortTick) _ r r (at_port c.args.at port c.get-ports.result.now IsPortTick r r c.in-Some.ensures ports rests) refl
 
 pub returns-in_ok-send_state : goal.returns-in_ok-send_state
 returns-in_ok-send_state g c =

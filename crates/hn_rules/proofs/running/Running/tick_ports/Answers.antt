@@ -1,5 +1,5 @@
 use Rattle.hn_base.proofs.Names.{ℕ, refl, subst, All}
-use Rattle.hn_rules.proofs.Names.{IsPortStill, ArePorts, AtPort, words_of, IsPortTick, IsPortsTick, ran_plain, ran_next}
+use Rattle.hn_rules.proofs.Names.{IsPortStill, ArePorts, AtPort, words_taken, IsPortTick, IsPortsTick, ran_plain, ran_next}
 use Rattle.hn_rules.proofs.Resting.{ports_rest}
 use Rattle.hn_rules.proofs.running.Running.tick_ports.Goals as goal
 
@@ -7,9 +7,9 @@ pub returns-then-are_ports_still : goal.returns-then-are_ports_still
 returns-then-are_ports_still g c =
     let r = c.args.self.now in
     let still = subst (λ (now : ℕ). All (IsPortStill now) r.state.ports) c.get-now.ensures.moment (c.are_ports_still.ensures.0 c.if-are_ports_still.true) in
-    ran_plain words_of IsPortsTick _ r r (ports_rest c.still_port.ensures r (subst ArePorts c.get.ensures c.as_slice-kept.ensures.kept) still) refl
+    ran_plain words_taken IsPortsTick _ r r (ports_rest c.still_port.ensures r (subst ArePorts c.get.ensures c.as_slice-kept.ensures.kept) still) refl
 
 pub loop-at-preserved : goal.loop-at-preserved
 loop-at-preserved g c =
-    ran_next words_of (λ at. AtPort at IsPortTick) c.deref-at-items.result.now c.loop-at.at-index _ (record { 0 = 0 }) _ _ _ c.args.self.now c.loop-at.self c.tick_port.new.self
+    ran_next words_taken (λ at. AtPort at IsPortTick) c.deref-at-items.result.now c.loop-at.at-index _ (record { 0 = 0 }) _ _ _ c.args.self.now c.loop-at.self c.tick_port.new.self
     c.loop-at-test.true refl c.loop-at.invariant c.in_ok-tick_port.ensures

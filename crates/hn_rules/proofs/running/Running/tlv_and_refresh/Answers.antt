@@ -1,5 +1,5 @@
 use Rattle.hn_base.proofs.Names.{refl, not-true, on_ok_weaker}
-use Rattle.hn_rules.proofs.Names.{words_of, plain, IsTlvRule, IsRefresh, ran_plain, ran_both}
+use Rattle.hn_rules.proofs.Names.{words_taken, plain, IsTlvRule, IsRefresh, ran_plain, ran_both}
 use Rattle.hn_rules.proofs.RefreshChangesNothing.{same_refresh}
 use Rattle.hn_rules.proofs.Refreshes.{refreshed_untouched, fresh_untouched}
 use Rattle.hn_rules.proofs.ReachStays.{knows_touched}
@@ -16,13 +16,13 @@ pub returns-then-not-touched-clause-ran : goal.returns-then-not-touched-clause-r
 returns-then-not-touched-clause-ran g c =
     let r = c.tlv.new.self in
     let fresh = fresh_untouched c.args.self.now.state r.state (c.in_ok-touched.ensures.untouched (not-true c.in_ok-touched.touched.any c.if-not-touched.true)) (c.requires.fresh c.if-fresh.true) in
-    ran_both words_of (IsTlvRule c.args.from.now (plain c.args.tlv.now)) IsRefresh _ _ _ c.args.self.now r r c.in_ok-touched.ensures.ran
-    (ran_plain words_of IsRefresh _ r r (same_refresh r fresh) refl)
+    ran_both words_taken (IsTlvRule c.args.from.now (plain c.args.tlv.now)) IsRefresh _ _ _ c.args.self.now r r c.in_ok-touched.ensures.ran
+    (ran_plain words_taken IsRefresh _ r r (same_refresh r fresh) refl)
 
 pub returns-clause-ran : goal.returns-clause-ran
 returns-clause-ran g c =
     on_ok_weaker c.refresh_after.result
-    (λ refresh. ran_both words_of (IsTlvRule c.args.from.now (plain c.args.tlv.now)) IsRefresh _ _ _ c.args.self.now c.tlv.new.self c.refresh_after.new.self c.in_ok-touched.ensures.ran refresh)
+    (λ refresh. ran_both words_taken (IsTlvRule c.args.from.now (plain c.args.tlv.now)) IsRefresh _ _ _ c.args.self.now c.tlv.new.self c.refresh_after.new.self c.in_ok-touched.ensures.ran refresh)
     c.refresh_after.ensures.ran
 
 pub refresh_after-requires-clause-linked : goal.refresh_after-requires-clause-linked

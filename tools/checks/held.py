@@ -173,12 +173,12 @@ class Replay:
     def on_tick(self, event):
         """Silent peers go, then nodes that were lost long ago (RFC 7787, sections 4.6 and 6.1.5)."""
         for peers in self.ports.values():
-            for peer in [peer for peer, (contact, _) in peers.items() if self.is_silent(peer, contact)]:
+            for peer in [peer for peer, (contact, _) in peers.items() if self.is_keep_alive_due(peer, contact)]:
                 del peers[peer]
         self.mark()
         self.table = {node: held for node, held in self.table.items() if held.lost is None or held.lost + FORGOTTEN > event.moment}
 
-    def is_silent(self, peer, contact):
+    def is_keep_alive_due(self, peer, contact):
         node, far = peer
         interval = self.table[node].data.interval(far) if node in self.table else 20000
         return 0 < interval and 21 * interval <= 10 * (self.moment - contact)

@@ -62,7 +62,7 @@ class Home:
         self.data = {node: states.data[state.key] for node, state in self.latest.items() if state.key in states.data}
         self.peers = {node: data.peers() for node, data in self.data.items()}
         self.last = senders.heard_last()
-        self.heard = {endpoint: last for endpoint, last in self.last.items() if not self.is_silent(endpoint, last)}
+        self.heard = {endpoint: last for endpoint, last in self.last.items() if not self.is_keep_alive_due(endpoint, last)}
         self.reached = self.reach(node for node, _ in self.heard)
         self.is_whole = self.knows_all()
         self.links = self.find_links()
@@ -81,7 +81,7 @@ class Home:
         said = self.senders.intervals.get(node, {})
         return said.get(number, said.get(0, KEEP_ALIVE)) * SILENCE or None
 
-    def is_silent(self, endpoint, last, times=1):
+    def is_keep_alive_due(self, endpoint, last, times=1):
         seconds = self.silence_of(endpoint)
         return seconds is not None and seconds * times < self.end - last.moment
 

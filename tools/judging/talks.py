@@ -159,7 +159,7 @@ class Talks:
         there."""
         home, neighbours = self.home, self.ever_peers()
         silent = {post: last for post, last in home.last.items()
-                  if home.is_silent(post, last, self.patience(last)) and self.senders.of(last.link, last.source).post == post}
+                  if home.is_keep_alive_due(post, last, self.patience(last)) and self.senders.of(last.link, last.source).post == post}
         for post, last in silent.items():
             if not self.took_leave(post, last) and self.others_went_on(post, last, silent, neighbours.get(post, ())):
                 text = (f'endpoint {post[1]} sent nothing more for {home.end - last.moment:.3f} s, to the end of the capture; '

@@ -28,6 +28,6 @@ pub mod SameAdvertised
 pub mod SomeLists
 pub mod SomeRuns
 pub mod SomeTurns
-pub mod StillRuns
+pub mod IdleRuns
 pub mod Unchanged
 pub mod WishLemmas

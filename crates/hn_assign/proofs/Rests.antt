@@ -4,7 +4,7 @@ use Rattle.hn_base.proofs.Names.{HaveSame, HasAt, same_Some}
 use Rattle.hn_assign.proofs.Names.{Contains-map, Contains-from_map, Contains-head, Contains-tail, PlainView, Advertised, Assigned, Wish, Backoff, Held, Ran, Pair, Slot, key_of, HasNoFree, unmarked}
 use Rattle.hn_assign.proofs.Names.{AreAssignmentsUnchanged, AreAtRest, AreAdvertised, IfValid, IsAhead, IsLine, marked_applied, assigned_pair, wish_pair, IsAscending, IsWished, Updates, KeepsWished}
 use Rattle.hn_assign.proofs.Names.{IsAtRest, PlainScene, IsBestFor, IsValidFor, IsFreeFor, scene_of, IsPairStep, AreSteps, IsSubroutine}
-use Rattle.hn_assign.specs.Rest.{IsIdle, IsAheadOfBest}
+use Rattle.hn_assign.specs.Rest.{IsAtRestWithout, IsAheadOfBest}
 use Rattle.hn_assign.proofs.AtPair.{is_had, same_list, updates_none}
 use Rattle.hn_assign.proofs.Marking.{marked_is}
 use Rattle.hn_assign.proofs.SameAdvertised.{same_advertised, best_in, best_one, valid_in, none_in}
@@ -18,7 +18,7 @@ idle_and_free adv wish (inl not) wanted p free = not wanted
 idle_and_free adv wish (inr none) wanted p free = none p free
 
 -- at rest by one list of advertised prefixes is at rest by another one of the same
-idle_in : (a b : List Advertised) (own : ℕ) (wish : Wish) → HaveSame a b → IsIdle a own wish → IsIdle b own wish
+idle_in : (a b : List Advertised) (own : ℕ) (wish : Wish) → HaveSame a b → IsAtRestWithout a own wish → IsAtRestWithout b own wish
 idle_in a b own wish same h = record {
   no_best = best_in a b own wish.common wish.delegated None same h.no_best;
   nothing_to_do = ⊎_elim (λ not. inl not) (λ none. inr (none_in a b wish.delegated wish.length same none)) h.nothing_to_do;

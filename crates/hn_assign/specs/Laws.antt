@@ -160,8 +160,8 @@ AdvertisedOfLater =
 
 -- Where the subroutine takes no word and leaves what is held as it is, it does so at a later moment too, while nothing
 -- that is held comes to its moment.
-abbrev pub StillRunStays : Type 0
-StillRunStays =
+abbrev pub IdleRunStays : Type 0
+IdleRunStays =
     (before after : PlainView) (wishes : List Wish) (held : Held) → IsLater before after
     → IsAscending wish_pair wishes
     → IsSubroutine before wishes held (record { held = held; words = [] })

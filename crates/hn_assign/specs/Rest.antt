@@ -11,7 +11,7 @@ use Rattle.hn_assign.specs.Lines.{IsAhead}
 use Rattle.hn_assign.specs.Scene.{PlainScene, IsValidFor}
 
 -- no best prefix and no assignment: the delegated prefix is not wanted, or nothing in it is free
-pub record IsIdle (adv : List Advertised) (own : ℕ) (wish : Wish) : Type 0 where
+pub record IsAtRestWithout (adv : List Advertised) (own : ℕ) (wish : Wish) : Type 0 where
   pub no_best : HasNoBest adv own wish.common wish.delegated
   pub nothing_to_do : ¬ (IsTrue wish.wanted) ⊎ HasNoFree adv wish.delegated wish.length
 
@@ -39,7 +39,7 @@ pub record IsFollowing (adv : List Advertised) (own : ℕ) (wish : Wish) (c : As
 
 -- the pair with its assignment, if it has one, is at rest
 abbrev pub IsAtRest : List Advertised → ℕ → Wish → Option Assigned → Type 0
-IsAtRest adv own wish None = IsIdle adv own wish
+IsAtRest adv own wish None = IsAtRestWithout adv own wish
 IsAtRest adv own wish (Some c) = IsAlone adv own wish c ⊎ (IsAheadOfBest adv own wish c ⊎ IsFollowing adv own wish c)
 
 -- the same wish, but that the delegated prefix may be wanted no more

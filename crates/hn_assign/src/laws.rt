@@ -16,7 +16,7 @@ ghost use Rattle.hn_assign.specs.Laws.{BestIsUnique, SubroutineKeepsInside, Subr
 ghost use Rattle.hn_assign.specs.Laws.{SubroutineKeepsPriority, AssignedAscend, BackoffsAscend, AssignedAreWished};
 ghost use Rattle.hn_assign.specs.Laws.{SubroutineHasOneResult, RestIsUnchanged, RestHasADueRun};
 ghost use Rattle.hn_assign.specs.Laws.{RestChangesNoAssignment, MarksChangeNothing, AdvertisedOfUnchanged, RestStays};
-ghost use Rattle.hn_assign.specs.Laws.{RestStaysUnwanted, AdvertisedOfLater, StillRunStays, SameHaveOneBest};
+ghost use Rattle.hn_assign.specs.Laws.{RestStaysUnwanted, AdvertisedOfLater, IdleRunStays, SameHaveOneBest};
 ghost use Rattle.hn_assign.specs.Laws.{SameHaveOneFirstFree, SameHaveSameFree, SameHaveSameValid, AdvertisedExists};
 ghost use Rattle.hn_assign.specs.Laws.{SubroutineKeepsLengths, SubroutineKeepsPrefixes, SubroutineKeepsSoon, SubroutineHasAResult, SubroutineHasADueRun};
 ghost use Rattle.hn_assign.specs.Lines.{IsKeptAlone, IsAdopted, IsKeptAhead, IsYielded, IsReplacedByBest};
@@ -118,8 +118,8 @@ pub fn advertised_of_later()
 
 /// Where the subroutine takes no word and leaves what is held as it is, it does so at a later moment too, while nothing
 /// that is held comes to its moment.
-pub fn still_run_stays()
-    ensures { StillRunStays }
+pub fn idle_run_stays()
+    ensures { IdleRunStays }
 {}
 
 /// Of lists with the same elements, in whatever order, the best prefix, the valid assignments and the free prefixes are

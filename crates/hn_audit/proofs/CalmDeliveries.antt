@@ -11,8 +11,8 @@ use Rattle.hn_router.specs.Act.{Arrive, Happened, is_refused}
 use Rattle.hn_router.specs.Laws.{EndpointsFollow, OneResult}
 use Rattle.hn_audit.specs.Calm.{QuietStaysOverDeliveries}
 use Rattle.hn_audit.proofs.RestOfPassed.{PassLaws, rests_passed}
-use Rattle.hn_audit.proofs.StayingSets.{IsStillAs}
-use Rattle.hn_audit.proofs.StayingSteps.{StayLaws, put_there, tick_still, stays_where_still}
+use Rattle.hn_audit.proofs.StayingSets.{IsSeenAsBefore}
+use Rattle.hn_audit.proofs.StayingSteps.{StayLaws, put_there, tick_undue, stays_where_still}
 
 -- the laws of the crates below on which it rests
 pub record CalmLaws : Type 0 where
@@ -90,8 +90,8 @@ module _ (laws : CalmLaws) (now : ℕ) (x : Member) (mail : MailCopy) (n : State
     used = subst (UseSame x.router) passed.is calm.used
 
     -- the router is as others see it, and at rest
-    pub passed_still : IsStillAs x.router n
-    passed_still = subst (IsStillAs x.router) (sym passed.is) (record {
+    pub passed_still : IsSeenAsBefore x.router n
+    passed_still = subst (IsSeenAsBefore x.router) (sym passed.is) (record {
       number = refl;
       own = refl;
       reach = refl;
@@ -117,6 +117,6 @@ stays_over laws copy words notes before after replays step place r next here run
     let found = calm mail x (record x { router = n }) does.is_copy at in
     let sound : IsSoundMember before.moment x =
     All-contains (IsSoundMember before.moment) before.members x (laws.stay.worlds.sound before replays) (contains_at before.members mail.to.place x acts.is_member) in
-    let still : IsReached before r x → IsStillAs x.router n = λ reached.
+    let still : IsReached before r x → IsSeenAsBefore x.router n = λ reached.
     passed_still laws before.moment x mail n acts.done sound acts.happened (found.1 reached) (quiet x reached) in
-    stays_where_still laws.stay before after replays place r next here runs settled quiet (tick_still before after mail.to.place x n acts.is_member gives r settled quiet found.0 still)
+    stays_where_still laws.stay before after replays place r next here runs settled quiet (tick_undue before after mail.to.place x n acts.is_member gives r settled quiet found.0 still)

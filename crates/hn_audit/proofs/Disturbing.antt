@@ -1,7 +1,7 @@
 -- What the search for what a set would do finds, as facts of the world: nothing if and only if the router is quiet.
 use Rattle.hn_base.proofs.Names.{◌≡◌, ◌↔◌, Bool, true, false, IsTrue, IfSome, Option, Some, None, Contains, refl, sym, subst, inl, inr, IsTotalOrder, false≢true, All-contains, HasAt}
 use Rattle.hn_audit.proofs.Names.{contains_at, Advertised, Assigned, Wish, IsWished, assigned_pair, pair_cmp, wish_pair, IsAtRest, UsableIsUnique, RestKnowsNoOrder, State, Member, Parts, Unquiet}
-use Rattle.hn_audit.proofs.Names.{IsFoundOf, act_of, FindsOfRouter, FindsRestless, FindsUnasked, IsFirstUnquiet, WitnessNamesRestless, IsQuietByRules, IsRouterAtRest, IsReached, set_of, Disturbs, IsOfSet}
+use Rattle.hn_audit.proofs.Names.{IsFoundOf, act_of, FindsOfRouter, FindsNotAtRest, FindsUnasked, IsFirstUnquiet, WitnessNamesOneNotAtRest, IsQuietByRules, IsRouterAtRest, IsReached, set_of, Disturbs, IsOfSet}
 use Rattle.hn_assign.specs.Best.{IsBestIfAny}
 use Rattle.hn_assign.specs.Fixed.{IsWishAtRest}
 use Rattle.hn_audit.specs.declared.witness.Unquiet.TheVariants as act
@@ -68,45 +68,45 @@ module _ (w : Parts) (r s : Member) (reached : IsReached w r s) (outlook : Outlo
       → IsBestIfAny outlook.advertised s.router.id.0 wish.common wish.delegated best
       → ¬ IsAtRest outlook.advertised s.router.id.0 wish assignment
       → Disturbs w r (act_of s.name wish assignment best)
-  act_disturbs wish there None None has is_best restless = record {
+  act_disturbs wish there None None has is_best not_at_rest = record {
     pair = asks_for wish None there has;
     no_best = is_best;
-    wanted = is_wanted wish.wanted (λ unwanted. restless (record { no_best = is_best; nothing_to_do = inl unwanted }));
-    some_free = λ none. restless (record { no_best = is_best; nothing_to_do = inr none });
+    wanted = is_wanted wish.wanted (λ unwanted. not_at_rest (record { no_best = is_best; nothing_to_do = inl unwanted }));
+    some_free = λ none. not_at_rest (record { no_best = is_best; nothing_to_do = inr none });
   }
-  act_disturbs wish there None (Some best) has is_best restless = record {
+  act_disturbs wish there None (Some best) has is_best not_at_rest = record {
     pair = asks_for wish None there has;
     advertised = best;
     is_best = is_best;
     of_best = refl;
   }
-  act_disturbs wish there (Some c) None has is_best restless = record {
+  act_disturbs wish there (Some c) None has is_best not_at_rest = record {
     assignment = c;
     of_prefix = refl;
     pair = asks_for wish (Some c) there has;
     no_best = is_best;
-    restless = restless;
+    not_at_rest = not_at_rest;
   }
-  act_disturbs wish there (Some c) (Some best) has is_best restless = record {
+  act_disturbs wish there (Some c) (Some best) has is_best not_at_rest = record {
     assignment = c;
     of_prefix = refl;
     pair = asks_for wish (Some c) there has;
     advertised = best;
     is_best = is_best;
     of_best = refl;
-    restless = restless;
+    not_at_rest = not_at_rest;
   }
 
-  restless_disturbs : (u : Unquiet) → IsFoundOf (FindsRestless s.name outlook.advertised s.router.id.0 s.router.held.assigned) outlook.wishes u → Disturbs w r u
-  restless_disturbs u h =
+  not_at_rest_disturbs : (u : Unquiet) → IsFoundOf (FindsNotAtRest s.name outlook.advertised s.router.id.0 s.router.held.assigned) outlook.wishes u → Disturbs w r u
+  not_at_rest_disturbs u h =
       let k = h.found in
-      subst (Disturbs w r) (sym k.is) (act_disturbs h.one (contains_at outlook.wishes h.place h.one h.at) k.assignment k.best k.has k.is_best k.restless)
+      subst (Disturbs w r) (sym k.is) (act_disturbs h.one (contains_at outlook.wishes h.place h.one h.at) k.assignment k.best k.has k.is_best k.not_at_rest)
 
 router_disturbs : (w : Parts) (r s : Member) (u : Unquiet) → IsReached w r s → FindsOfRouter s (Some u) → Disturbs w r u
 router_disturbs w r s u reached h =
     elim h.found [
       | inl unasked ↦ unasked_disturbs w r s reached h.outlook u unasked
-      | inr restless ↦ restless_disturbs w r s reached h.outlook u restless.1
+      | inr not_at_rest ↦ not_at_rest_disturbs w r s reached h.outlook u not_at_rest.1
     ]
 
 pub first_disturbs : (w : Parts) (r : Member) (u : Unquiet) → IsFirstUnquiet w r (Some u) → Disturbs w r u
@@ -121,8 +121,8 @@ module _ (unique : UsableIsUnique) (total : IsTotalOrder pair_cmp) (order : Rest
   pair_rests s o wish assignment rest there has =
       rests_in_order unique total s o.usable o.are_usable o.wishes o.are_asked rest order o.advertised o.are_advertised wish there assignment has
 
-  pub names_restless : WitnessNamesRestless
-  names_restless w r (act.Unasked router endpoint delegated prefix) h =
+  pub names_one_not_at_rest : WitnessNamesOneNotAtRest
+  names_one_not_at_rest w r (act.Unasked router endpoint delegated prefix) h =
       let o = h.outlook in (
         h.one,
         h.of_set.reached,
@@ -130,7 +130,7 @@ module _ (unique : UsableIsUnique) (total : IsTotalOrder pair_cmp) (order : Rest
             h.unasked (All-contains (λ (c : Assigned). IsWished o.wishes (assigned_pair c)) h.one.router.held.assigned h.assignment
             (wished_there unique total h.one.router o.usable o.are_usable o.wishes o.are_asked rest) h.has.held),
       )
-  names_restless w r (act.Makes router endpoint delegated) h =
+  names_one_not_at_rest w r (act.Makes router endpoint delegated) h =
       let p = h.pair in (
         p.one,
         p.of_set.reached,
@@ -139,18 +139,18 @@ module _ (unique : UsableIsUnique) (total : IsTotalOrder pair_cmp) (order : Rest
           | inr none ↦ h.some_free none
         ],
       )
-  names_restless w r (act.Takes router endpoint delegated best) h =
+  names_one_not_at_rest w r (act.Takes router endpoint delegated best) h =
       let p = h.pair in
       (p.one, p.of_set.reached, λ rest. (pair_rests p.one.router p.outlook p.wish None rest p.asked p.has).no_best h.advertised h.is_best.candidate)
-  names_restless w r (act.Drops router endpoint delegated prefix) h =
+  names_one_not_at_rest w r (act.Drops router endpoint delegated prefix) h =
       let p = h.pair in
-      (p.one, p.of_set.reached, λ rest. h.restless (pair_rests p.one.router p.outlook p.wish (Some h.assignment) rest p.asked p.has))
-  names_restless w r (act.Changes router endpoint delegated prefix best) h =
+      (p.one, p.of_set.reached, λ rest. h.not_at_rest (pair_rests p.one.router p.outlook p.wish (Some h.assignment) rest p.asked p.has))
+  names_one_not_at_rest w r (act.Changes router endpoint delegated prefix best) h =
       let p = h.pair in
-      (p.one, p.of_set.reached, λ rest. h.restless (pair_rests p.one.router p.outlook p.wish (Some h.assignment) rest p.asked p.has))
+      (p.one, p.of_set.reached, λ rest. h.not_at_rest (pair_rests p.one.router p.outlook p.wish (Some h.assignment) rest p.asked p.has))
 
   pub refutes_quiet : WitnessRefutesQuiet
-  refutes_quiet w r u h quiet = let (s, reached, restless) = names_restless w r u h in restless (quiet s reached)
+  refutes_quiet w r u h quiet = let (s, reached, not_at_rest) = names_one_not_at_rest w r u h in not_at_rest (quiet s reached)
 
 -- ---- the facts of an answer
 

@@ -2,7 +2,7 @@
 use Rattle.hn_base.proofs.Names.{◌≡◌, ◌∙◌, ◌<◌, ◌≤◌, ◌-◌, ◌^◌, ℕ, Bool, false, true, List, [], ◌∷◌, Contains, map, Option, None, Some, refl, sym, ap, subst, arith, ◌||◌, nat_le, filter_map, leb-false}
 use Rattle.hn_base.proofs.Names.{leb-true, or_parts, All-contains, All-contains_itself, All-weaker}
 use Rattle.hn_audit.proofs.Names.{All, all_of, NodeId, IsLater, PlainView, Delegated, AreUsable, Assigned, Wish, Ran, AreAtRest, AreAssignmentsUnchanged, IsWished, assigned_pair, PlainData, OwnPrefix}
-use Rattle.hn_audit.proofs.Names.{held, Passing, Done, State, IsRunAssigned, entry_of, view_of, after_passing, IsRested, IsRouter, seen_by, AreHeard, IsUneventful, at_moment, IsYoung, Happened, Tick}
+use Rattle.hn_audit.proofs.Names.{held, Passing, Done, State, IsRunAssigned, entry_of, view_of, after_passing, IsKeptAtRest, IsRouter, seen_by, AreHeard, IsKeptUndue, at_moment, AreAgesUndue, Happened, Tick}
 use Rattle.hn_audit.proofs.Names.{MomentIsNow, IsSteady, IsLastingUntil, IsRouterAtRest, AreSame, UseSame}
 use Rattle.hn_deleg.specs.Due.{IsLifetimeEnd}
 use Rattle.hn_deleg.specs.Laws.{AgedAreTheSamePrefixes, EndsOfLater, UnwantedOfLater, UsableOfLater}
@@ -11,7 +11,7 @@ use Rattle.hn_own.specs.Lifetimes.{has_ended}
 use Rattle.hn_own.specs.OwnPrefixes.{has_ended_one}
 use Rattle.hn_store.specs.declared.stored.HeldNode.{HeldNode}
 use Rattle.hn_rules.specs.Nodes.{age_at}
-use Rattle.hn_rules.specs.Updates.{LeavesAges, RestfulTickLeavesAges}
+use Rattle.hn_rules.specs.Updates.{LeavesAges, CalmTickLeavesAges}
 use Rattle.hn_audit.proofs.BridgeUsed.{used_same}
 use Rattle.hn_audit.proofs.EqualInPlace.{same_back}
 use Rattle.hn_audit.proofs.RestsOnwards.{ran}
@@ -24,7 +24,7 @@ pub record UntilLaws : Type 0 where
   pub prefixes : AgedAreTheSamePrefixes
   pub unwanted : UnwantedOfLater
   pub ends : EndsOfLater
-  pub leaves : RestfulTickLeavesAges
+  pub leaves : CalmTickLeavesAges
   pub moment : MomentIsNow
 
 -- ---- what has not ended had not ended before
@@ -50,7 +50,7 @@ none_ended a b le (p ∷ list) is =
 abbrev LeadsAt : ℕ → HeldNode → Type 0
 LeadsAt now node = node.stored.lost ≡ None → age_at now node.stored < 2 ^ 32 - 2 ^ 15
 
-pub younger : (a b : ℕ) (s : State) → a ≤ b → IsYoung b s → IsYoung a s
+pub younger : (a b : ℕ) (s : State) → a ≤ b → AreAgesUndue b s → AreAgesUndue a s
 younger a b s le is = record {
   young = let young = is.young in omega (arith, le, young);
   leads = all_of (LeadsAt a) s.table.entries (λ node there none.
@@ -58,8 +58,8 @@ younger a b s le is = record {
       omega (arith, le, less));
 }
 
-younger_now : (b : ℕ) (s n : State) → n.own ≡ s.own → LeavesAges s n → IsYoung b s → IsYoung b n
-younger_now b s n own left is = record {
+smaller_age_now : (b : ℕ) (s n : State) → n.own ≡ s.own → LeavesAges s n → AreAgesUndue b s → AreAgesUndue b n
+smaller_age_now b s n own left is = record {
   young = subst (λ (o : PlainData). b - o.born < 2 ^ 32 - 2 ^ 16) (sym own) is.young;
   leads = all_of (LeadsAt b) n.table.entries (λ node there. All-contains (LeadsAt b) s.table.entries node is.leads (left.entries node there));
 }
@@ -122,7 +122,7 @@ module _ (laws : UntilLaws) (until now : ℕ) (s : State) (router : IsRouter s) 
     };
     lasts = record {
       lasting = ap (has_ended_one until) left.delegated ∙ lasting.lasting;
-      young = younger_now until s n own left lasting.young;
+      young = smaller_age_now until s n own left lasting.young;
       ends = ends_now n seen moment;
     };
   }
@@ -170,7 +170,7 @@ module _ (laws : UntilLaws) (until now : ℕ) (s : State) (router : IsRouter s) 
         ((laws.rests.advertised_later before at s.held.assigned rest.advertised later).0 rest.are_advertised) at_rest is.is_subroutine
 
   module _ (n : State) (done : Done) (happened : Happened now Tick s n done) (heard : AreHeard now s) where
-    quiet : IsUneventful now s
+    quiet : IsKeptUndue now s
     quiet =
         let young = younger now until s soon lasting.young in
         record { heard = heard; lasting = none_ended now until soon s.delegated lasting.lasting; young = young.young; leads = young.leads }
@@ -178,7 +178,7 @@ module _ (laws : UntilLaws) (until now : ℕ) (s : State) (router : IsRouter s) 
     pub lasts_over_tick : LastsOn until now s n
     lasts_over_tick =
         let run' = ran now s n done happened in
-        let rested : IsRested s run'.after.state = laws.rests.restful now s run'.after router begun quiet changes_none run'.tick in
+        let rested : IsKeptAtRest s run'.after.state = laws.rests.restful now s run'.after router begun quiet changes_none run'.tick in
         let left : LeavesAges s run'.after.state = laws.leaves now s run'.after router begun quiet changes_none run'.tick in
         let moment : n.moment ≡ now = laws.moment now Tick s n done happened in
         let id : n.id ≡ s.id = ap (λ (x : State). x.id) run'.is ∙ rested.id in

@@ -3,13 +3,13 @@ use Rattle.hn_base.proofs.Names.{◌≡◌, ◌∙◌, ◌⊎◌, ◌<◌, ◌�
 use Rattle.hn_base.proofs.Names.{slice_get-get_or}
 use Rattle.hn_audit.proofs.Names.{IsTrue, slice_set, contains_at, Passing, Note, State, MailCopy, Traced, WEvent, Member, Parts, refusal, IsReplayed, IsSoundMember, Does, IsResting, origin_of}
 use Rattle.hn_audit.proofs.Names.{AreHeardSince, ArePeersLinked, AreSendsHeardSince, GoesInTurns, GoesLossless, HasTicked, IsCalmSince, IsLosslessEvent, IsSteady, IsLastingUntil, IsReached, IsRunning}
-use Rattle.hn_audit.proofs.Names.{UseSame, IsMemberAt, IsYoung}
+use Rattle.hn_audit.proofs.Names.{UseSame, IsMemberAt, AreAgesUndue}
 use Rattle.hn_world.specs.declared.event.WEvent.TheVariants as event
 use Rattle.hn_audit.specs.Lasting.{GoesInTimelyTurns, GoesTimely, IsLastingHome, IsTimelyEvent, LastingGoesInTurns, TicksAmong}
 use Rattle.hn_audit.proofs.AcceptedRuns.{receives_running, ticks_running}
 use Rattle.hn_audit.proofs.BridgeWorlds.{known_of}
 use Rattle.hn_audit.proofs.CalmDeliveries.{only_passing}
-use Rattle.hn_audit.proofs.HeardOnwards.{none_silent}
+use Rattle.hn_audit.proofs.HeardOnwards.{none_expired}
 use Rattle.hn_audit.proofs.LastingRouters.{LastsOn, UntilLaws, lasts_over_passing, lasts_over_tick, younger}
 use Rattle.hn_audit.proofs.RestsOnwards.{GoesOn}
 use Rattle.hn_audit.proofs.RoundsRenewed.{one_round, replays_all, rests_now, which_at}
@@ -74,7 +74,7 @@ lasts_by laws until heard since (event.Tick name) words notes before between aft
     let known = known_of worlds before r replays rest.runs rest.settled in
     let on : LastsOn until before.moment x.router n =
     lasts_over_tick laws.until until before.moment x.router sound.router sound.past timely.1 (rest.quiet x reached) (home.each x reached) n acts.done acts.happened
-    (none_silent laws.turns.rounds.heard.interval before r known x reached heard before.moment peers timely.0) in
+    (none_expired laws.turns.rounds.heard.interval before r known x reached heard before.moment peers timely.0) in
     record {
       lossless = λ place y then is there reached_y.
           let place_is : does.place ≡ place = same_Some does.place place (sym does.is_place ∙ is) in
@@ -113,7 +113,7 @@ lasts_by laws until heard since (event.Deliver copy) words notes before between 
           let one : mail ≡ other = same_Some mail other (sym does.is_copy ∙ is) in
           let here : IsMemberAt mail.to.place before after y then = subst (λ (c : MailCopy). IsMemberAt c.to.place before after y then) (sym one) there in
           these_at (λ (a b : Member). (b.router.id ≡ a.router.id)
-          × (IsReached before r a → ((other.waiting ≡ true) ⊎ (since < copy)) × IsYoung before.moment a.router × UseSame a.router b.router))
+          × (IsReached before r a → ((other.waiting ≡ true) ⊎ (since < copy)) × AreAgesUndue before.moment a.router × UseSame a.router b.router))
           mail.to.place before after x next_x at_x (id, λ reached_x. (timely.0 other is, on.steady.young, on.steady.used)) y then here;
       each = one_lasts until before after mail.to.place x next_x acts.is_member gives r home on.lasts;
     }

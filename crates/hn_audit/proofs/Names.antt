@@ -10,19 +10,19 @@ pub use Rattle.hn_assign.specs.declared.assigned.Wish.{Wish}
 pub use Rattle.hn_assign.specs.declared.held.Held.{Held}
 pub use Rattle.hn_assign.specs.declared.held.Ran.{Ran}
 pub use Rattle.hn_assign.specs.declared.pair.Pair.{Pair}
-pub use Rattle.hn_audit.specs.Calm.{AreCurrent, IsRestfulEvent, IsResting}
+pub use Rattle.hn_audit.specs.Calm.{AreCurrent, IsCalmSinceCopies, IsResting}
 pub use Rattle.hn_audit.specs.First.{FindsOne, IsFirstFound, IsFoundOf, OrElse}
-pub use Rattle.hn_audit.specs.FirstWitness.{AreSaid, FindsAct, FindsAlike, FindsHeld, FindsId, FindsKnown, FindsNear, FindsOfPeers, FindsOfRouter, FindsOnLinks, FindsReach, FindsRestless}
+pub use Rattle.hn_audit.specs.FirstWitness.{AreSaid, FindsAct, FindsAlike, FindsHeld, FindsId, FindsKnown, FindsNear, FindsOfPeers, FindsOfRouter, FindsOnLinks, FindsReach, FindsNotAtRest}
 pub use Rattle.hn_audit.specs.FirstWitness.{FindsStranger, FindsUnasked, FindsUnseen, FindsUntrue, FindsUsed, IsFirstUnquiet, IsFirstUnsettled, IsSeenPair, IsTrueOf, act_of, unheld_of}
 pub use Rattle.hn_audit.specs.Heard.{AreDelivered, AreHeardSince, ArePeersLinked, AreSendsHeard, AreSendsHeardSince, GoesInTurns, GoesLossless, HasTicked, IsCalmSince, IsLosslessEvent, IsSteady, IsSteadyEvent}
 pub use Rattle.hn_audit.specs.Lasting.{IsLastingUntil}
-pub use Rattle.hn_audit.specs.Laws.{AnewHasARun, RestHasARun, WitnessNamesRestless}
+pub use Rattle.hn_audit.specs.Laws.{AnewHasARun, RestHasARun, WitnessNamesOneNotAtRest}
 pub use Rattle.hn_audit.specs.Quiet.{IsQuietByRules, IsRouterAtRest}
 pub use Rattle.hn_audit.specs.Reached.{AreOnOneLink, IsOfOne, IsOnLink, IsReached, IsRunning, runs_as}
 pub use Rattle.hn_audit.specs.Set.{AreSameAt, PlainSpot, is_in_set, members_of, plain_spot, plain_spots, set_of, spot_at, spots_in}
 pub use Rattle.hn_audit.specs.Settled.{AreLinkedByRules, AreSame, HoldsState, IsSameEndpoint, IsSettledByRules, UseSame}
 pub use Rattle.hn_audit.specs.Sound.{IsHeldOn, IsPostOn, IsServedLink, IsSoundByRules, IsThereByRules, IsWithout, Joint, Link, Private, UsesByRules}
-pub use Rattle.hn_audit.specs.Staying.{IsCalmArrival, IsCurrent, origin_of, IsMemberAt, IsRestful, KeepAssignments}
+pub use Rattle.hn_audit.specs.Staying.{IsCalmArrival, IsCurrent, origin_of, IsMemberAt, IsCalmTick, KeepAssignments}
 pub use Rattle.hn_audit.specs.Witness.{Disturbs, IsOfSet, Refutes}
 pub use Rattle.hn_audit.specs.declared.spots.Spot.{Spot}
 pub use Rattle.hn_audit.specs.declared.witness.Unquiet.{Unquiet}
@@ -64,13 +64,13 @@ pub use Rattle.hn_rules.specs.Assigning.{AreAsked, IsRunAssigned, IsWishAt}
 pub use Rattle.hn_rules.specs.Laws.{AssignedIsPublished, EntriesAreAsKnown, HashIsOfLeaves, OwnPeersAreOfEndpoints, PrivatePostIsAlone, ViewIsNetwork}
 pub use Rattle.hn_rules.specs.Nodes.{entry_of, held_entry, own_entry, view_of}
 pub use Rattle.hn_rules.specs.Passing.{IsStatusUpdate, after_passing}
-pub use Rattle.hn_rules.specs.Rested.{IsRested, ViewOfLater}
+pub use Rattle.hn_rules.specs.KeptAtRest.{IsKeptAtRest, ViewOfLater}
 pub use Rattle.hn_rules.specs.Router.{IsRouter}
 pub use Rattle.hn_rules.specs.Rules.{begun_at}
 pub use Rattle.hn_rules.specs.Seen.{seen_by}
-pub use Rattle.hn_rules.specs.Still.{AreHeard, IsUneventful, at_moment}
+pub use Rattle.hn_rules.specs.Undue.{AreHeard, IsKeptUndue, at_moment}
 pub use Rattle.hn_rules.specs.Ticks.{IsTick}
-pub use Rattle.hn_rules.specs.Updates.{IsStatusSend, IsYoung, OwnIntervalIsDefault}
+pub use Rattle.hn_rules.specs.Updates.{IsStatusSend, AreAgesUndue, OwnIntervalIsDefault}
 pub use Rattle.hn_rules.specs.declared.arrival.passing.Passing.{Passing}
 pub use Rattle.hn_rules.specs.declared.done.Done.{Done}
 pub use Rattle.hn_rules.specs.declared.done.Note.{Note}

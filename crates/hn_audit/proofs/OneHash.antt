@@ -8,7 +8,7 @@ use Rattle.hn_rules.specs.Nodes.{leaf_of, leaves_of}
 use Rattle.hn_audit.specs.Calm.{SettledHaveOneHash}
 use Rattle.hn_audit.proofs.BridgeSets.{IsKnown, reach_is, member_of, one_member, router_of}
 use Rattle.hn_audit.proofs.BridgeWorlds.{WorldLaws, known_of}
-use Rattle.hn_audit.proofs.StayingSets.{IsStillAs}
+use Rattle.hn_audit.proofs.StayingSets.{IsSeenAsBefore}
 
 -- ---- the leaf of an identifier
 
@@ -82,7 +82,7 @@ by_own true s u id o number own =
     sym (ap (λ (n : ℕ). leaf n u.own) number ∙ ap (leaf s.number) own)
 by_own false s u id o number own = held_leaf s.moment u.moment id o
 
-pub same_net : HashIsOfLeaves → (s n : State) → IsRouter s → IsRouter n → n.id ≡ s.id → IsStillAs s n → n.net ≡ s.net
+pub same_net : HashIsOfLeaves → (s n : State) → IsRouter s → IsRouter n → n.id ≡ s.id → IsSeenAsBefore s n → n.net ≡ s.net
 same_net law s n s_is n_is id still =
     let same : (i : NodeId) → Contains s.reach i → leaf_at s i ≡ leaf_at n i = λ i there.
     by_own (i.0 == s.id.0) s n i (held s.table.entries i.0) still.number still.own

@@ -3,7 +3,7 @@ use Rattle.hn_base.proofs.Names.{◌≡◌, ◌∙◌, ℕ, List, Option, Some, 
 use Rattle.hn_audit.proofs.Names.{NodeId, Name, ascending_unique, has_one, Advertised, Assigned, Wish, assigned_pair, pair_cmp, wish_pair, IsAtRest, PeerLink, UsableIsUnique, Delegated, AreAsked}
 use Rattle.hn_audit.proofs.Names.{seen_by, RestKnowsNoOrder, held, Attachment, Member, Parts, IsSoundWorld, Unquiet, Unsettled, FindsOne, IsFirstFound, OrElse, unheld_of, FindsAlike, FindsHeld}
 use Rattle.hn_audit.proofs.Names.{FindsId, FindsKnown, FindsReach, FindsUsed, IsFirstUnsettled, FindsNear, FindsOfPeers, FindsOnLinks, FindsStranger, FindsUnseen, FindsUntrue, act_of, FindsAct}
-use Rattle.hn_audit.proofs.Names.{FindsOfRouter, FindsRestless, FindsUnasked, IsFirstUnquiet, PlainSpot, set_of}
+use Rattle.hn_audit.proofs.Names.{FindsOfRouter, FindsNotAtRest, FindsUnasked, IsFirstUnquiet, PlainSpot, set_of}
 use Rattle.hn_assign.specs.Laws.{SameHaveOneBest}
 use Rattle.hn_assign.specs.Pair.{IsAscending}
 use Rattle.hn_data.specs.Peers.{peer_cmp}
@@ -126,11 +126,11 @@ module _ (best_is_one : SameHaveOneBest) (order : RestKnowsNoOrder) (total : IsT
   rested_too : (wish : Wish) (c : Option Assigned) → IsAtRest b own wish c → IsAtRest a own wish c
   rested_too wish c = order b a own wish wish.common c (λ x. ((same x).1, (same x).0)) (λ at. (λ h. h, λ h. h))
 
-  restless_agree : (wish : Wish) → Agree (FindsRestless name a own assigned wish) (FindsRestless name b own assigned wish)
-  restless_agree wish None None none also = refl
-  restless_agree wish None (Some u) none some = absurd (some.restless (also_rests wish some.assignment (none some.assignment some.has)))
-  restless_agree wish (Some u) None some none = absurd (some.restless (rested_too wish some.assignment (none some.assignment some.has)))
-  restless_agree wish (Some u) (Some v) some also =
+  not_at_rest_agree : (wish : Wish) → Agree (FindsNotAtRest name a own assigned wish) (FindsNotAtRest name b own assigned wish)
+  not_at_rest_agree wish None None none also = refl
+  not_at_rest_agree wish None (Some u) none some = absurd (some.not_at_rest (also_rests wish some.assignment (none some.assignment some.has)))
+  not_at_rest_agree wish (Some u) None some none = absurd (some.not_at_rest (rested_too wish some.assignment (none some.assignment some.has)))
+  not_at_rest_agree wish (Some u) (Some v) some also =
       let assignment : some.assignment ≡ also.assignment = has_one assigned_pair pair_cmp total (wish_pair wish) assigned some.assignment also.assignment up some.has also.has in
       let best : some.best ≡ also.best = best_is_one a b same own wish.common wish.delegated some.best also.best some.is_best also.is_best in
       ap Some (some.is ∙ (ap (λ (c : Option Assigned). act_of name wish c some.best) assignment ∙ (ap (act_of name wish also.assignment) best ∙ sym also.is)))
@@ -138,9 +138,9 @@ module _ (best_is_one : SameHaveOneBest) (order : RestKnowsNoOrder) (total : IsT
   acts_agree : (wishes : List Wish) → Agree (FindsAct name a own assigned wishes) (FindsAct name b own assigned wishes)
   acts_agree wishes =
       let unasked : Option Unquiet → Type 0 = IsFirstFound (FindsUnasked name wishes) assigned in
-      let restless : List Advertised → Option Unquiet → Type 0 = λ adv. IsFirstFound (FindsRestless name adv own assigned) wishes in
-      or_else_agrees unasked (restless a) unasked (restless b) (first_agrees (FindsUnasked name wishes) (FindsUnasked name wishes) assigned (λ c there. unasked_is_one c))
-      (first_agrees (FindsRestless name a own assigned) (FindsRestless name b own assigned) wishes (λ wish there. restless_agree wish))
+      let not_at_rest : List Advertised → Option Unquiet → Type 0 = λ adv. IsFirstFound (FindsNotAtRest name adv own assigned) wishes in
+      or_else_agrees unasked (not_at_rest a) unasked (not_at_rest b) (first_agrees (FindsUnasked name wishes) (FindsUnasked name wishes) assigned (λ c there. unasked_is_one c))
+      (first_agrees (FindsNotAtRest name a own assigned) (FindsNotAtRest name b own assigned) wishes (λ wish there. not_at_rest_agree wish))
     where
       unasked_is_one : (c : Assigned) → FindsOne (FindsUnasked name wishes c)
       unasked_is_one c = leaf_is_one (FindsUnasked name wishes c) (act.Unasked name c.endpoint c.delegated c.prefix) (λ u asked h. h.1 asked) (λ u h. h.0)

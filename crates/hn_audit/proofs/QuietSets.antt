@@ -1,11 +1,11 @@
 -- A set is quiet if and only if the assignment subroutine, run anew, comes to something on each of its routers and changes
 -- nothing. And the router of a name runs.
 use Rattle.hn_base.proofs.Names.{◌≡◌, ◌↔◌, ℕ, Bool, true, false, not, IsTrue, IfSome, List, Option, Some, None, is_some, refl, sym, subst, option_map_or, All-contains, All-nil}
-use Rattle.hn_audit.proofs.Names.{All, IsRouter, Member, Parts, is_named, IsSoundWorld, IsSoundMember, AnewHasARun, RestHasARun, WitnessNamesRestless, IsQuietByRules, IsRunning, IsReached, Disturbs, Unquiet}
+use Rattle.hn_audit.proofs.Names.{All, IsRouter, Member, Parts, is_named, IsSoundWorld, IsSoundMember, AnewHasARun, RestHasARun, WitnessNamesOneNotAtRest, IsQuietByRules, IsRunning, IsReached, Disturbs, Unquiet}
 use Rattle.hn_audit.proofs.Names.{found_passes}
 use Rattle.hn_world.specs.Names.{member_named}
 use Rattle.hn_audit.specs.Fixed.{ChangesNothing, IsFixed, MayChangeNothing, SomeActs}
-use Rattle.hn_audit.specs.Laws.{HasRestless, RestKeepsAssignments, UnchangedIsAtRest}
+use Rattle.hn_audit.specs.Laws.{HasOneNotAtRest, RestKeepsAssignments, UnchangedIsAtRest}
 use Rattle.hn_audit.specs.Reached.{runs}
 
 -- a router of a sound world
@@ -35,16 +35,16 @@ module _ (w : Parts) (r : Member) (sound : IsSoundWorld w) (answer : Bool) (quie
 
 module _ (w : Parts) (r : Member) (sound : IsSoundWorld w) where
   -- a router that is not at rest acts
-  restless_acts : AnewHasARun → UnchangedIsAtRest → HasRestless w r → SomeActs w r
-  restless_acts runs rests (s, reached, restless) =
+  not_at_rest_acts : AnewHasARun → UnchangedIsAtRest → HasOneNotAtRest w r → SomeActs w r
+  not_at_rest_acts runs rests (s, reached, not_at_rest) =
       let router = router_of w r s sound reached in
-      (s, reached, record { comes = runs s.router router; acts = λ ran run same. restless (rests s.router ran router run same) })
+      (s, reached, record { comes = runs s.router router; acts = λ ran run same. not_at_rest (rests s.router ran router run same) })
 
   -- where one acts, it is not so that no run changes anything
   acting_changes : SomeActs w r → ¬ ChangesNothing w r
   acting_changes (s, reached, acting) nothing = acting.comes (λ _. 0) (λ ran run. acting.acts ran run.0 (nothing s ran reached run.0))
 
-  module _ (runs : AnewHasARun) (keeps : RestKeepsAssignments) (rests : UnchangedIsAtRest) (names : WitnessNamesRestless) where
+  module _ (runs : AnewHasARun) (keeps : RestKeepsAssignments) (rests : UnchangedIsAtRest) (names : WitnessNamesOneNotAtRest) where
     -- the answer by a witness: quiet if and only if no run changes anything, and else one acts
     pub quiet_or_acts : (found : Option Unquiet) (answer : Bool) → is_some found ≡ not answer → IfSome found (Disturbs w r) → (IsTrue answer ↔ IsQuietByRules w r)
         → (IsTrue answer ↔ ChangesNothing w r) × ((answer ≡ false) ↔ SomeActs w r)
@@ -54,7 +54,7 @@ module _ (w : Parts) (r : Member) (sound : IsSoundWorld w) where
         let nothing = quiet_changes_nothing w r sound true quiet keeps refl in
         ((λ is. nothing, λ _. refl), (λ is. absurd (cc), λ acting. absurd (acting_changes acting nothing)))
     quiet_or_acts (Some u) false said witness quiet =
-        let acting = restless_acts runs rests (names w r u witness) in
+        let acting = not_at_rest_acts runs rests (names w r u witness) in
         ((λ is. absurd (cc), λ nothing. absurd (acting_changes acting nothing)), (λ _. acting, λ _. refl))
 
 -- the router of a name, which runs

@@ -2,14 +2,14 @@
 use Rattle.hn_base.proofs.Names.{◌≡◌, ◌∙◌, ◌⊎◌, ◌≤◌, ◌-◌, ℕ, true, List, [], ◌∷◌, length, Some, None, Contains, slice_get, inl, inr, refl, sym, ap, subst, arith, All-contains, same_Some}
 use Rattle.hn_base.proofs.Names.{slice_get-get_or, slice_get_within}
 use Rattle.hn_audit.proofs.Names.{slice_set, contains_at, NodeId, Neighbour, Note, State, OwnIntervalIsDefault, Traced, WEvent, Member, Parts, refusal, IsReplayed, IsSoundMember, Does, Step}
-use Rattle.hn_audit.proofs.Names.{AreCurrent, IsCalmArrival, IsResting, IsRestfulEvent, AreHeardSince, IsSteadyEvent, IsReached, IsMemberAt, IsRestful}
-use Rattle.hn_rules.specs.Updates.{RestfulTickMovesPorts}
+use Rattle.hn_audit.proofs.Names.{AreCurrent, IsCalmArrival, IsResting, IsCalmSinceCopies, AreHeardSince, IsSteadyEvent, IsReached, IsMemberAt, IsCalmTick}
+use Rattle.hn_rules.specs.Updates.{CalmTickMovesPorts}
 use Rattle.hn_world.specs.declared.event.WEvent.TheVariants as event
 use Rattle.hn_audit.specs.Heard.{GoesSteadily, RestLastsWhileHeard}
 use Rattle.hn_audit.proofs.AcceptedRuns.{time_goes_on}
 use Rattle.hn_audit.proofs.BridgeWorlds.{known_of}
 use Rattle.hn_audit.proofs.CalmDeliveries.{passed}
-use Rattle.hn_audit.proofs.HeardOnwards.{none_silent, HeardOn, heard_itself, passing_heard}
+use Rattle.hn_audit.proofs.HeardOnwards.{none_expired, HeardOn, heard_itself, passing_heard}
 use Rattle.hn_audit.proofs.RestsOnwards.{RestingLaws, GoesOn, ran, one_event, nothing_goes, both_go}
 use Rattle.hn_audit.proofs.StayingSteps.{put_there, which}
 use Rattle.hn_audit.proofs.NextWorlds.{replays_more}
@@ -17,28 +17,28 @@ use Rattle.hn_audit.proofs.NextWorlds.{replays_more}
 pub record HeardLaws : Type 0 where
   pub resting : RestingLaws
   pub interval : OwnIntervalIsDefault
-  pub peers : RestfulTickMovesPorts
+  pub peers : CalmTickMovesPorts
 
 -- ---- a steady event is a restful one
 
-pub restful_by : HeardLaws → (heard since : ℕ) (event : WEvent) (before after : Parts) (r : Member) → IsReplayed before → IsResting since before r → AreHeardSince heard before r
-    → IsSteadyEvent heard since event before after r → IsRestfulEvent since event before after r
-restful_by laws heard since (event.Time moment) before after r replays rest heard_since steady = tt
-restful_by laws heard since (event.Drop copy) before after r replays rest heard_since steady = tt
-restful_by laws heard since (event.Tick name) before after r replays rest heard_since steady = λ place x next is at reached.
+pub calm_by : HeardLaws → (heard since : ℕ) (event : WEvent) (before after : Parts) (r : Member) → IsReplayed before → IsResting since before r → AreHeardSince heard before r
+    → IsSteadyEvent heard since event before after r → IsCalmSinceCopies since event before after r
+calm_by laws heard since (event.Time moment) before after r replays rest heard_since steady = tt
+calm_by laws heard since (event.Drop copy) before after r replays rest heard_since steady = tt
+calm_by laws heard since (event.Tick name) before after r replays rest heard_since steady = λ place x next is at reached.
     let known = known_of laws.resting.calm.stay.worlds before r replays rest.runs rest.settled in
     let (soon, holds) = steady place x next is at reached in
     record {
       uneventful = record {
-        heard = none_silent laws.interval before r known x reached heard before.moment heard_since soon;
+        heard = none_expired laws.interval before r known x reached heard before.moment heard_since soon;
         lasting = holds.lasting;
         young = holds.young.young;
         leads = holds.young.leads;
       };
       used = holds.used;
     }
-restful_by laws heard since (event.Deliver copy) before after r replays rest heard_since steady = steady
-restful_by laws heard since _ before after r replays rest heard_since steady = absurd steady
+calm_by laws heard since (event.Deliver copy) before after r replays rest heard_since steady = steady
+calm_by laws heard since _ before after r replays rest heard_since steady = absurd steady
 
 -- ---- who was heard
 
@@ -62,7 +62,7 @@ one_hears before after place x n there gives since r rest hears k m then at reac
 ]
 
 pub hears_by : HeardLaws → (since : ℕ) (event : WEvent) (words : List ℕ) (notes : List Note) (before between after : Parts) → IsReplayed before → after.members ≡ between.members
-    → Does event words notes before between → (r : Member) → IsResting since before r → IsRestfulEvent since event before after r → HearOn before after r
+    → Does event words notes before between → (r : Member) → IsResting since before r → IsCalmSinceCopies since event before after r → HearOn before after r
 hears_by laws since (event.Time moment) words notes before between after replays same does r rest calm = same_hear before after r (same ∙ ap (λ (w : Parts). w.members) does.gives)
 hears_by laws since (event.Drop copy) words notes before between after replays same does r rest calm = same_hear before after r (same ∙ ap (λ (w : Parts). w.members) does.quietly.gives)
 hears_by laws since (event.Tick name) words notes before between after replays same does r rest calm =
@@ -79,7 +79,7 @@ hears_by laws since (event.Tick name) words notes before between after replays s
     let sound : IsSoundMember before.moment x =
     All-contains (IsSoundMember before.moment) before.members x (laws.resting.calm.stay.worlds.sound before replays) (contains_at before.members does.place x acts.is_member) in
     one_hears before after does.place x n acts.is_member gives since r rest (λ reached q peer q_in peer_in.
-    let restful : IsRestful before.moment x.router n = calm does.place x next_x does.is_place at_x reached in
+    let restful : IsCalmTick before.moment x.router n = calm does.place x next_x does.is_place at_x reached in
     let there : Contains run.after.state.ports q = subst (λ (s : State). Contains s.ports q) run.is q_in in
     let moved = laws.peers before.moment x.router run.after sound.router sound.past restful.uneventful run.tick q there in
     record {
@@ -118,7 +118,7 @@ hears_by laws since _ words notes before between after replays same does r rest 
 
 -- time does not go back
 pub time_by : (since : ℕ) (event : WEvent) (words : List ℕ) (notes : List Note) (before between after : Parts) → refusal before event ≡ None → Does event words notes before between
-    → (r : Member) → IsRestfulEvent since event before after r → before.moment ≤ between.moment
+    → (r : Member) → IsCalmSinceCopies since event before after r → before.moment ≤ between.moment
 time_by since (event.Time moment) words notes before between after accepted does r calm =
     let later = time_goes_on moment before accepted in
     let is : between.moment ≡ moment = ap (λ (w : Parts). w.moment) does.gives in
@@ -142,7 +142,7 @@ pub one_heard : HeardLaws → (heard since : ℕ) (t : Traced) (notes : List Not
     → (place : ℕ) (r : Member) → slice_get before.members place ≡ Some r → IsResting since before r → AreHeardSince heard before r → heard ≤ before.moment
     → IsSteadyEvent heard since t.event before after r → GoesHeard heard since place before after r
 one_heard laws heard since t notes before after replays step place r at rest heard_since later steady =
-    let calm = restful_by laws heard since t.event before after r replays rest heard_since steady in
+    let calm = calm_by laws heard since t.event before after r replays rest heard_since steady in
     let goes = one_event laws.resting since t notes before after replays step place r at rest calm in
     let hears = hears_by laws since t.event t.words notes before step.between after replays (ap (λ (w : Parts). w.members) step.gives) step.does r rest calm in
     let on = time_by since t.event t.words notes before step.between after step.accepted step.does r calm in

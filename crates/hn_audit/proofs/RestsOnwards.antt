@@ -3,14 +3,14 @@ use Rattle.hn_base.proofs.Names.{◌≡◌, ◌∙◌, ◌⊎◌, ◌<◌, ◌�
 use Rattle.hn_base.proofs.Names.{arith, All, option_map, cases_eq, All-contains, same_Some, slice_get_within}
 use Rattle.hn_audit.proofs.Names.{IsTrue, slice_set, nothing_in, contains_at, Name, ArePorts, endpoints_of, AreAssignmentsUnchanged, Done, Note, Outgoing, State, HashIsOfLeaves, IsRouter, Running}
 use Rattle.hn_audit.proofs.Names.{begun_at, IsTick, IsStatusSend, Tick, MailCopy, Traced, WEvent, Attachment, Member, Parts, copies_of, is_of, refusal, IsReplayed, IsSoundMember, Does, Step}
-use Rattle.hn_audit.proofs.Names.{IsCurrent, AreCurrent, IsCalmArrival, IsResting, IsRestfulEvent, IsQuietByRules, IsRunning, IsReached, IsSettledByRules, IsMemberAt, KeepAssignments}
+use Rattle.hn_audit.proofs.Names.{IsCurrent, AreCurrent, IsCalmArrival, IsResting, IsCalmSinceCopies, IsQuietByRules, IsRunning, IsReached, IsSettledByRules, IsMemberAt, KeepAssignments}
 use Rattle.std.specs.List.{find}
 use Rattle.hn_typed.specs.Fields.{IsHash}
 use Rattle.hn_rules.specs.Laws.{RouterIsHashed}
 use Rattle.hn_rules.specs.Updates.{TicksSendUpdates}
 use Rattle.hn_router.specs.Act.{Happened}
 use Rattle.hn_world.specs.declared.event.WEvent.TheVariants as event
-use Rattle.hn_audit.specs.Calm.{RestGoesOn, GoesRestfully, RestLasts}
+use Rattle.hn_audit.specs.Calm.{RestGoesOn, GoesCalmly, RestLasts}
 use Rattle.hn_audit.proofs.AcceptedRuns.{ticks_running, receives_running}
 use Rattle.hn_audit.proofs.BridgeSets.{IsKnown, itself, router_of}
 use Rattle.hn_audit.proofs.BridgeWorlds.{known_of}
@@ -18,8 +18,8 @@ use Rattle.hn_audit.proofs.CalmDeliveries.{CalmLaws, passed, passed_still}
 use Rattle.hn_audit.proofs.CopiesOnLinks.{IsCopyOf, copy_of}
 use Rattle.hn_audit.proofs.CurrentCopies.{stays_current, sender_reached, is_current}
 use Rattle.hn_audit.proofs.OneHash.{same_net}
-use Rattle.hn_audit.proofs.StayingSets.{IsKept, IsStillAs, AreStill}
-use Rattle.hn_audit.proofs.StayingSteps.{x_still, put_there, put_elsewhere, still_later, tick_still, stays_where_still}
+use Rattle.hn_audit.proofs.StayingSets.{IsKept, IsSeenAsBefore, AreSeenAsBefore}
+use Rattle.hn_audit.proofs.StayingSteps.{x_still, put_there, put_elsewhere, still_later, tick_undue, stays_where_still}
 use Rattle.hn_audit.proofs.NextWorlds.{NextLaws, replays_more}
 
 -- the laws of the crates below on which it rests
@@ -85,7 +85,7 @@ pub record GoesOn (since place : ℕ) (before after : Parts) (r : Member) : Type
   pub on : (k : ℕ) (m : Member) → slice_get before.members k ≡ Some m → (then : Member) × (slice_get after.members k ≡ Some then)
 
 module _ (laws : RestingLaws) (since place : ℕ) (before after : Parts) (replays : IsReplayed before) (replays_after : IsReplayed after) (r next : Member) (here : IsMemberAt place before after r next)
-    (rest : IsResting since before r) (are : AreStill before after r) where
+    (rest : IsResting since before r) (are : AreSeenAsBefore before after r) where
   stays : IsSettledByRules after next × IsQuietByRules after next × KeepAssignments before after r next
   stays = stays_where_still laws.calm.stay before after replays place r next here rest.runs rest.settled rest.quiet are
 
@@ -179,7 +179,7 @@ there_after before after at x n there gives place r is = elim (cases_eq place at
 ]
 
 -- a copy of what a router sent, as it is where that router has changed
-module _ (before after : Parts) (at : ℕ) (x : Member) (n : State) (r : Member) (are : AreStill before after r) where
+module _ (before after : Parts) (at : ℕ) (x : Member) (n : State) (r : Member) (are : AreSeenAsBefore before after r) where
   copy_after : (send : Outgoing) (mail : MailCopy) (y : Member) → IsCopyOf before.members at x send mail → slice_get after.members mail.to.place ≡ Some y
       → (copy : IsCopyOf after.members at (record x { router = n }) send mail) × (copy.receiver ≡ y)
   copy_after send mail y copy to =
@@ -219,7 +219,7 @@ status_sends laws now s n done happened router =
 -- a router ticks
 goes_tick : RestingLaws → (since : ℕ) (name : Name) (words : List ℕ) (notes : List Note) (before between after : Parts) → IsReplayed before → IsReplayed after
     → refusal before (event.Tick name) ≡ None → after.members ≡ between.members → after.copies ≡ between.copies → Does (event.Tick name) words notes before between
-    → (place : ℕ) (r : Member) → slice_get before.members place ≡ Some r → IsResting since before r → IsRestfulEvent since (event.Tick name) before after r → GoesOn since place before after r
+    → (place : ℕ) (r : Member) → slice_get before.members place ≡ Some r → IsResting since before r → IsCalmSinceCopies since (event.Tick name) before after r → GoesOn since place before after r
 goes_tick laws since name words notes before between after replays replays_after accepted same copies does place r at rest calm =
     let acts = does.acts in
     let x = acts.member in
@@ -235,9 +235,9 @@ goes_tick laws since name words notes before between after replays replays_after
     } in
     let (next, is) = there_after before after does.place x n acts.is_member gives place r at in
     let here : IsMemberAt place before after r next = record { was = at; is = is } in
-    let still : IsReached before r x → IsStillAs x.router n = λ reached.
+    let still : IsReached before r x → IsSeenAsBefore x.router n = λ reached.
     x_still laws.calm.stay before after replays place r next here rest.runs rest.settled rest.quiet x n acts.done reached acts.happened (calm does.place x next_x does.is_place at_x reached) in
-    let are : AreStill before after r = tick_still before after does.place x n acts.is_member gives r rest.settled rest.quiet id still in
+    let are : AreSeenAsBefore before after r = tick_undue before after does.place x n acts.is_member gives r rest.settled rest.quiet id still in
     let known = known_after laws since place before after replays replays_after r next here rest are in
     let running = ticks_running name before does.place x accepted does.is_place acts.is_member in
     goes_on laws since place before after replays replays_after r next here rest are (there_after before after does.place x n acts.is_member gives)
@@ -258,7 +258,7 @@ goes_tick laws since name words notes before between after replays replays_after
 -- a copy is delivered
 goes_delivery : RestingLaws → (since copy : ℕ) (words : List ℕ) (notes : List Note) (before between after : Parts) → IsReplayed before → IsReplayed after
     → refusal before (event.Deliver copy) ≡ None → after.members ≡ between.members → after.copies ≡ between.copies → Does (event.Deliver copy) words notes before between
-    → (place : ℕ) (r : Member) → slice_get before.members place ≡ Some r → IsResting since before r → IsRestfulEvent since (event.Deliver copy) before after r → GoesOn since place before after r
+    → (place : ℕ) (r : Member) → slice_get before.members place ≡ Some r → IsResting since before r → IsCalmSinceCopies since (event.Deliver copy) before after r → GoesOn since place before after r
 goes_delivery laws since copy words notes before between after replays replays_after accepted same copies does place r at rest calm =
     let acts = does.acts in
     let mail = does.mail in
@@ -284,9 +284,9 @@ goes_delivery laws since copy words notes before between after replays replays_a
     let premise = found.1 reached in
     let later : (mail.waiting ≡ true) ⊎ (since ≤ copy - 1) = elim premise.0 [ inl waits ↦ inl waits | inr less ↦ inr (omega (arith, less)) ] in
     record { current = rest.current (copy - 1) mail x later does.is_copy acts.is_member reached; young = premise.1; used = premise.2 } in
-    let still : IsReached before r x → IsStillAs x.router n = λ reached.
+    let still : IsReached before r x → IsSeenAsBefore x.router n = λ reached.
     passed_still laws.calm before.moment x mail n acts.done sound acts.happened (arrival reached) (rest.quiet x reached) in
-    let are : AreStill before after r = tick_still before after mail.to.place x n acts.is_member gives r rest.settled rest.quiet found.0 still in
+    let are : AreSeenAsBefore before after r = tick_undue before after mail.to.place x n acts.is_member gives r rest.settled rest.quiet found.0 still in
     let known = known_after laws since place before after replays replays_after r next here rest are in
     let running = receives_running copy before mail x accepted does.is_copy acts.is_member in
     goes_on laws since place before after replays replays_after r next here rest are (there_after before after mail.to.place x n acts.is_member gives)
@@ -311,7 +311,7 @@ goes_delivery laws since copy words notes before between after replays replays_a
 
 goes_by : RestingLaws → (since : ℕ) (event : WEvent) (words : List ℕ) (notes : List Note) (before between after : Parts) → IsReplayed before → IsReplayed after
     → refusal before event ≡ None → after.members ≡ between.members → after.copies ≡ between.copies → Does event words notes before between
-    → (place : ℕ) (r : Member) → slice_get before.members place ≡ Some r → IsResting since before r → IsRestfulEvent since event before after r → GoesOn since place before after r
+    → (place : ℕ) (r : Member) → slice_get before.members place ≡ Some r → IsResting since before r → IsCalmSinceCopies since event before after r → GoesOn since place before after r
 goes_by laws since (event.Time moment) words notes before between after replays replays_after accepted same copies does place r at rest calm =
     unchanged laws since place before after replays replays_after r at rest (same ∙ ap (λ (w : Parts). w.members) does.gives)
     (λ k mail there. (mail, ap (λ (list : List MailCopy). slice_get list k) (sym (copies ∙ ap (λ (w : Parts). w.copies) does.gives)) ∙ there, the_same mail))
@@ -335,7 +335,7 @@ goes_by laws since (event.Deliver copy) words notes before between after replays
 goes_by laws since _ words notes before between after replays replays_after accepted same copies does place r at rest calm = absurd calm
 
 pub one_event : RestingLaws → (since : ℕ) (t : Traced) (notes : List Note) (before after : Parts) → IsReplayed before → Step t notes before after
-    → (place : ℕ) (r : Member) → slice_get before.members place ≡ Some r → IsResting since before r → IsRestfulEvent since t.event before after r → GoesOn since place before after r
+    → (place : ℕ) (r : Member) → slice_get before.members place ≡ Some r → IsResting since before r → IsCalmSinceCopies since t.event before after r → GoesOn since place before after r
 one_event laws since t notes before after replays step place r at rest calm =
     goes_by laws since t.event t.words notes before step.between after replays (replays_more laws.next t notes before after replays step) step.accepted
     (ap (λ (w : Parts). w.members) step.gives) (ap (λ (w : Parts). w.copies) step.gives) step.does place r at rest calm
@@ -388,7 +388,7 @@ both_go since place a b c r first second = record {
 }
 
 all_go : RestingLaws → (since place : ℕ) (ts : List Traced) (before after : Parts) (r : Member) → IsReplayed before → slice_get before.members place ≡ Some r → IsResting since before r
-    → GoesRestfully since place before ts after → GoesOn since place before after r
+    → GoesCalmly since place before ts after → GoesOn since place before after r
 all_go laws since place [] before after r replays at rest is = subst (λ (w : Parts). GoesOn since place before w r) (sym is) (nothing_goes since place before r at rest)
 all_go laws since place (t ∷ ts) before after r replays at rest (between, (notes, step), calm, goes) =
     let first = one_event laws since t notes before between replays step place r at rest (calm r at) in

@@ -3,8 +3,8 @@ use Rattle.hn_base.proofs.Names.{◌≡◌, ◌≢◌, ◌∙◌, ◌⊎◌, ◌
 use Rattle.hn_base.proofs.Names.{subst, arith, ◌||◌, option_map, option_map_or, cases_eq, All-contains, same_Some, slice_get-get_or, slice_get_within}
 use Rattle.hn_audit.proofs.Names.{slice_set, Contains-map, Contains-from_map, contains_at, EpId, NodeId, ListIsUnique, ItemIsUnique, Neighbour, Port, port_at, endpoints_of, is_attached, Passing, Done}
 use Rattle.hn_audit.proofs.Names.{Note, Outgoing, State, after_passing, IsStatusUpdate, IsStatusSend, MailCopy, Target, Traced, WEvent, Attachment, Member, Parts, copies_of, is_of, IsReplayed}
-use Rattle.hn_audit.proofs.Names.{IsSoundMember, IsAttachedMember, Does, Step, origin_of, IsResting, IsRestfulEvent, AreHeardSince, IsSteadyEvent, ArePeersLinked, AreSendsHeardSince, IsLosslessEvent}
-use Rattle.hn_audit.proofs.Names.{GoesLossless, AreDelivered, IsRunning, IsReached, IsOnLink, AreOnOneLink, IsMemberAt, IsRestful, KeepAssignments, IsQuietByRules, IsSettledByRules, AreAssignmentsUnchanged, Name}
+use Rattle.hn_audit.proofs.Names.{IsSoundMember, IsAttachedMember, Does, Step, origin_of, IsResting, IsCalmSinceCopies, AreHeardSince, IsSteadyEvent, ArePeersLinked, AreSendsHeardSince, IsLosslessEvent}
+use Rattle.hn_audit.proofs.Names.{GoesLossless, AreDelivered, IsRunning, IsReached, IsOnLink, AreOnOneLink, IsMemberAt, IsCalmTick, KeepAssignments, IsQuietByRules, IsSettledByRules, AreAssignmentsUnchanged, Name}
 use Rattle.std.specs.List.{find}
 use Rattle.hn_rules.specs.Router.{IsPortPast}
 use Rattle.hn_rules.specs.Updates.{HasMoved, PeersAreAttached}
@@ -15,7 +15,7 @@ use Rattle.hn_audit.specs.Heard.{IsUnderWay, RoundRenews, GoesInRounds, RestGoes
 use Rattle.hn_audit.proofs.BridgeSets.{IsKnown, router_of}
 use Rattle.hn_audit.proofs.CalmDeliveries.{IsPassed, passed}
 use Rattle.hn_audit.proofs.BridgeWorlds.{known_of}
-use Rattle.hn_audit.proofs.RestsHeard.{HeardLaws, GoesHeard, HearOn, one_heard, restful_by, hears_by}
+use Rattle.hn_audit.proofs.RestsHeard.{HeardLaws, GoesHeard, HearOn, one_heard, calm_by, hears_by}
 use Rattle.hn_audit.proofs.RestsOnwards.{GoesOn, ran, status_sends, nothing_goes, both_go}
 use Rattle.hn_audit.proofs.SendsHeard.{one_sender, made, copy_made, front_stays, new_place, ports_by, same_port, peer_after}
 use Rattle.hn_audit.proofs.StayingSteps.{put_there, put_elsewhere}
@@ -200,7 +200,7 @@ module _ (laws : RoundLaws) (start since place : ℕ) (before between after : Pa
       }))
 
   -- a router ticks
-  sends_over_tick : (name : Name) (words : List ℕ) (notes : List Note) → Does (event.Tick name) words notes before between → IsRestfulEvent since (event.Tick name) before after r
+  sends_over_tick : (name : Name) (words : List ℕ) (notes : List Note) → Does (event.Tick name) words notes before between → IsCalmSinceCopies since (event.Tick name) before after r
       → AreSendsHeardSince start after goes.next
   sends_over_tick name words notes does calm =
       let acts = does.acts in
@@ -220,7 +220,7 @@ module _ (laws : RoundLaws) (start since place : ℕ) (before between after : Pa
       let stays : (k : ℕ) (mail : MailCopy) → slice_get before.copies k ≡ Some mail → slice_get after.copies k ≡ Some mail = λ k mail there.
       ap (λ (list : List MailCopy). slice_get list k) made_now ∙ front_stays before.copies new k mail there in
       let moved : IsReached before r m0 → (p : Port) → Contains n.ports p → HasMoved before.moment acts.done.sends m0.router.ports p = λ reached p p_in.
-      let restful : IsRestful before.moment m0.router n = calm a m0 next_x does.is_place at_x reached in
+      let restful : IsCalmTick before.moment m0.router n = calm a m0 next_x does.is_place at_x reached in
       let there : Contains run.after.state.ports p = subst (λ (s : State). Contains s.ports p) run.is p_in in
       subst (λ (d : Done). HasMoved before.moment d.sends m0.router.ports p) (sym run.done_is)
       (laws.heard.peers before.moment m0.router run.after sound.router sound.past restful.uneventful run.tick p there) in
@@ -282,7 +282,7 @@ module _ (laws : RoundLaws) (start since place : ℕ) (before between after : Pa
       ])
 
   -- a copy is delivered
-  sends_over_delivery : (copy : ℕ) (words : List ℕ) (notes : List Note) → Does (event.Deliver copy) words notes before between → IsRestfulEvent since (event.Deliver copy) before after r
+  sends_over_delivery : (copy : ℕ) (words : List ℕ) (notes : List Note) → Does (event.Deliver copy) words notes before between → IsCalmSinceCopies since (event.Deliver copy) before after r
       → AreSendsHeardSince start after goes.next
   sends_over_delivery copy words notes does calm =
       let acts = does.acts in
@@ -364,7 +364,7 @@ module _ (laws : RoundLaws) (start since place : ℕ) (before between after : Pa
 
 sends_by : RoundLaws → (start since place : ℕ) (event : WEvent) (words : List ℕ) (notes : List Note) (before between after : Parts) → IsReplayed before → IsReplayed after
     → after.members ≡ between.members → after.copies ≡ between.copies → Does event words notes before between → (r : Member) → IsResting since before r
-    → (heard : ℕ) → IsLosslessEvent heard since event before after r → IsRestfulEvent since event before after r → (goes : GoesOn since place before after r) → AreSendsHeardSince start before r
+    → (heard : ℕ) → IsLosslessEvent heard since event before after r → IsCalmSinceCopies since event before after r → (goes : GoesOn since place before after r) → AreSendsHeardSince start before r
     → AreSendsHeardSince start after goes.next
 sends_by laws start since place (event.Time moment) words notes before between after replays replays_after same copies does r rest heard lossless calm goes sends =
     sends_over_time laws start since place before between after replays replays_after same copies r rest goes sends (same ∙ ap (λ (w : Parts). w.members) does.gives)
@@ -431,7 +431,7 @@ pub one_round : RoundLaws → (start heard since : ℕ) (t : Traced) (notes : Li
     → ArePeersLinked before r → AreSendsHeardSince start before r → IsLosslessEvent heard since t.event before after r → GoesRound start heard since place before after r
 one_round laws start heard since t notes before after replays step place r at rest peers later linked sends lossless =
     let steady = steady_of heard since t.event before after r lossless in
-    let calm = restful_by laws.heard heard since t.event before after r replays rest peers steady in
+    let calm = calm_by laws.heard heard since t.event before after r replays rest peers steady in
     let one = one_heard laws.heard heard since t notes before after replays step place r at rest peers later steady in
     let replays_after = replays_more laws.heard.resting.next t notes before after replays step in
     let same : after.members ≡ (step.between).members = ap (λ (w : Parts). w.members) step.gives in

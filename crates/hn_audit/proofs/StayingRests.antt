@@ -3,10 +3,10 @@ use Rattle.hn_base.proofs.Names.{◌≡◌, ◌∙◌, ◌-◌, ◌≤◌, ℕ, 
 use Rattle.hn_base.proofs.Names.{All-contains, All-head, All-tail, All-contains_itself, All-weaker, PlainPrefix}
 use Rattle.hn_audit.proofs.Names.{All, slice_get, Contains-from_map, Contains-map, all_of, EpId, NodeId, IsLater, PlainView, Entry, Delegated, UsableIsUnique, AreUsable, IsUnwanted, prefixes_of}
 use Rattle.hn_audit.proofs.Names.{IsCommonLink, CommonLinkOfLater, Assigned, Wish, Ran, AreAtRest, AreAssignmentsUnchanged, unmarked, AreAdvertised, AdvertisedOfLater, IsWished, assigned_pair}
-use Rattle.hn_audit.proofs.Names.{posts_of, private_posts, held, Stored, Running, State, IsWishAt, AreAsked, IsRunAssigned, held_entry, entry_of, view_of, IsRested, ViewOfLater, IsRouter, begun_at}
-use Rattle.hn_audit.proofs.Names.{seen_by, at_moment, IsUneventful, IsTick, IsRouterAtRest, AreSame, UseSame}
+use Rattle.hn_audit.proofs.Names.{posts_of, private_posts, held, Stored, Running, State, IsWishAt, AreAsked, IsRunAssigned, held_entry, entry_of, view_of, IsKeptAtRest, ViewOfLater, IsRouter, begun_at}
+use Rattle.hn_audit.proofs.Names.{seen_by, at_moment, IsKeptUndue, IsTick, IsRouterAtRest, AreSame, UseSame}
 use Rattle.hn_assign.specs.Laws.{AdvertisedOfUnchanged, RestChangesNoAssignment, RestStays, RestStaysUnwanted}
-use Rattle.hn_rules.specs.Rested.{RestfulTick, UsedWhereAssigned}
+use Rattle.hn_rules.specs.KeptAtRest.{CalmTick, UsedWhereAssigned}
 use Rattle.hn_audit.proofs.BridgeUsed.{is_unwanted, is_wanted, at_prefix, delegated_at, used_same}
 use Rattle.hn_audit.proofs.EqualInPlace.{same_back}
 
@@ -21,7 +21,7 @@ pub record RestLaws : Type 0 where
   pub rest_changes : RestChangesNoAssignment
   pub view : ViewOfLater
   pub used : UsedWhereAssigned
-  pub restful : RestfulTick
+  pub restful : CalmTick
 
 -- ---- wishes in two views
 
@@ -73,7 +73,7 @@ entries_by s t (id ∷ ids) same =
 
 -- ---- a tick
 
-module _ (laws : RestLaws) (now : ℕ) (s : State) (router : IsRouter s) (begun : s.moment ≤ now) (quiet : IsUneventful now s) (rest : IsRouterAtRest s)
+module _ (laws : RestLaws) (now : ℕ) (s : State) (router : IsRouter s) (begun : s.moment ≤ now) (quiet : IsKeptUndue now s) (rest : IsRouterAtRest s)
     (after : Running) (tick : IsTick (begun_at now s) after) (use_same : UseSame s after.state) where
   abbrev before : PlainView
   before = seen_by s
@@ -122,12 +122,12 @@ module _ (laws : RestLaws) (now : ℕ) (s : State) (router : IsRouter s) (begun 
         laws.rest_changes at is.wishes s.held ran rest.advertised router.well.pairs.assigned wished_at
         ((laws.advertised_later before at s.held.assigned rest.advertised later).0 rest.are_advertised) at_rest is.is_subroutine
 
-  pub rested : IsRested s after.state
+  pub rested : IsKeptAtRest s after.state
   rested = laws.restful now s after router begun quiet changes_none tick
 
   -- ---- after it
 
-  module _ (next : State) (same : UseSame s next) (left : IsRested s next) (moment : next.moment ≡ now) where
+  module _ (next : State) (same : UseSame s next) (left : IsKeptAtRest s next) (moment : next.moment ≡ now) where
     known_at : (id : NodeId) → Contains s.reach id → entry_of next id ≡ entry_of (at_moment now s) id
     known_at id there = entry_by next (at_moment now s) id left.id left.number left.own moment (left.known id there)
 

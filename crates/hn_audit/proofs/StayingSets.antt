@@ -11,7 +11,7 @@ pub record IsKept (m next : Member) : Type 0 where
   pub id : next.router.id ≡ m.router.id
 
 -- a router of the set is as others see it, and at rest
-pub record IsStillAs (s next : State) : Type 0 where
+pub record IsSeenAsBefore (s next : State) : Type 0 where
   pub number : next.number ≡ s.number
   pub own : next.own ≡ s.own
   pub reach : next.reach ≡ s.reach
@@ -21,18 +21,18 @@ pub record IsStillAs (s next : State) : Type 0 where
   pub rests : IsRouterAtRest next
 
 -- each router of the world is the same one, and each of the set of r is so
-pub record AreStill (before after : Parts) (r : Member) : Type 0 where
+pub record AreSeenAsBefore (before after : Parts) (r : Member) : Type 0 where
   pub kept : (place : ℕ) (m next : Member) → IsMemberAt place before after m next → IsKept m next
-  pub still : (place : ℕ) (m next : Member) → IsMemberAt place before after m next → IsReached before r m → IsStillAs m.router next.router
+  pub still : (place : ℕ) (m next : Member) → IsMemberAt place before after m next → IsReached before r m → IsSeenAsBefore m.router next.router
   pub was : (place : ℕ) (next : Member) → slice_get after.members place ≡ Some next → (m : Member) × IsMemberAt place before after m next
   pub count : (id : NodeId) → count_by (runs_as id) after.members ≡ count_by (runs_as id) before.members
 
 use_back : (s u : State) → UseSame s u → UseSame u s
 use_back s u same = record { one = same.other; is_one = same.is_other; other = same.one; is_other = same.is_one; same = same_back same.one same.other same.same }
 
-module _ (unique : UsableIsUnique) (before after : Parts) (r next : Member) (place : ℕ) (here : IsMemberAt place before after r next) (are : AreStill before after r)
+module _ (unique : UsableIsUnique) (before after : Parts) (r next : Member) (place : ℕ) (here : IsMemberAt place before after r next) (are : AreSeenAsBefore before after r)
     (itself : IsReached before r r) (settled : IsSettledByRules before r) where
-  r_still : IsStillAs r.router next.router
+  r_still : IsSeenAsBefore r.router next.router
   r_still = are.still place r next here itself
 
   on_link : (link : ℕ) (m m' : Member) (e : EpId) → IsKept m m' → IsOnLink link m' e → IsOnLink link m e
@@ -63,7 +63,7 @@ module _ (unique : UsableIsUnique) (before after : Parts) (r next : Member) (pla
     pub at : IsMemberAt spot before after m m'
     pub kept : IsKept m m'
     pub reached : IsReached before r m
-    pub still : IsStillAs m.router m'.router
+    pub still : IsSeenAsBefore m.router m'.router
 
   was_reached : (m' : Member) → IsReached after next m' → WasReached m'
   was_reached m' is =
@@ -91,7 +91,7 @@ module _ (unique : UsableIsUnique) (before after : Parts) (r next : Member) (pla
 
   -- ---- settled
 
-  holds_now : (s s' u u' : Member) → IsStillAs s.router s'.router → IsStillAs u.router u'.router → IsKept u u' → Contains s.router.reach u.router.id
+  holds_now : (s s' u u' : Member) → IsSeenAsBefore s.router s'.router → IsSeenAsBefore u.router u'.router → IsKept u u' → Contains s.router.reach u.router.id
       → HoldsState s.router u.router → HoldsState s'.router u'.router
   holds_now s s' u u' s_still u_still u_kept reaches holds = record {
     stored = holds.stored;
@@ -103,7 +103,7 @@ module _ (unique : UsableIsUnique) (before after : Parts) (r next : Member) (pla
   use_now : (s s' u u' : State) → UseSame s s' → UseSame s u → UseSame u u' → UseSame s' u'
   use_now s s' u u' s_same same u_same = use_same_too unique u s' u' (use_back s' u (use_same_too unique s s' u s_same same)) u_same
 
-  links_are : (s s' u u' : Member) (e f : EpId) → IsKept s s' → IsKept u u' → IsStillAs s.router s'.router → IsStillAs u.router u'.router
+  links_are : (s s' u u' : Member) (e f : EpId) → IsKept s s' → IsKept u u' → IsSeenAsBefore s.router s'.router → IsSeenAsBefore u.router u'.router
       → AreLinkedByRules s'.router e u'.router f ↔ AreLinkedByRules s.router e u.router f
   links_are s s' u u' e f s_kept u_kept s_still u_still =
       let P : NodeId → PlainData → NodeId → PlainData → Type 0 = λ s_id s_own u_id u_own. IsLinked s_own.body s_id.0 e.0 u_own.body u_id.0 f.0 in (

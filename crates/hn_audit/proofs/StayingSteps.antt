@@ -1,10 +1,10 @@
 -- A settled and quiet router stays so when time passes, and when a router ticks.
 use Rattle.hn_base.proofs.Names.{◌≡◌, ◌≢◌, ◌∙◌, ◌⊎◌, ℕ, zero, suc, Bool, cond, get_or, List, [], ◌∷◌, Some, slice_get, inl, inr, refl, sym, ap, subst, arith, ◌==◌, ◌&&◌, count_by, cases_eq}
 use Rattle.hn_base.proofs.Names.{All-contains, sum_by-set, get_or_from_slice_get, same_Some, slice_get_within}
-use Rattle.hn_audit.proofs.Names.{slice_set, NodeId, Name, PlainView, AreUsable, Done, Note, Running, State, IsRested, begun_at, seen_by, IsTick, Tick, MomentIsNow, Traced, WEvent, Member, Parts}
-use Rattle.hn_audit.proofs.Names.{WorldHasItsTrace, WorldHasItsVersion, IsReplayed, IsSoundMember, Does, IsQuietByRules, runs_as, IsRunning, IsReached, UseSame, IsSettledByRules, IsMemberAt, IsRestful}
+use Rattle.hn_audit.proofs.Names.{slice_set, NodeId, Name, PlainView, AreUsable, Done, Note, Running, State, IsKeptAtRest, begun_at, seen_by, IsTick, Tick, MomentIsNow, Traced, WEvent, Member, Parts}
+use Rattle.hn_audit.proofs.Names.{WorldHasItsTrace, WorldHasItsVersion, IsReplayed, IsSoundMember, Does, IsQuietByRules, runs_as, IsRunning, IsReached, UseSame, IsSettledByRules, IsMemberAt, IsCalmTick}
 use Rattle.hn_audit.proofs.Names.{KeepAssignments}
-use Rattle.hn_rules.specs.Rested.{KeepsId}
+use Rattle.hn_rules.specs.KeptAtRest.{KeepsId}
 use Rattle.hn_router.specs.Act.{Happened}
 use Rattle.hn_world.specs.declared.event.WEvent.TheVariants as event
 use Rattle.hn_world.specs.Laws.{EachEventIsAStep}
@@ -15,7 +15,7 @@ use Rattle.hn_audit.proofs.BridgeSets.{itself}
 use Rattle.hn_audit.proofs.BridgeWorlds.{WorldLaws, known_of}
 use Rattle.hn_audit.proofs.FrontWorlds.{replayed}
 use Rattle.hn_audit.proofs.StayingRests.{RestLaws, rested, rests_next}
-use Rattle.hn_audit.proofs.StayingSets.{IsKept, IsStillAs, AreStill, settled_now, quiet_now, kept_now}
+use Rattle.hn_audit.proofs.StayingSets.{IsKept, IsSeenAsBefore, AreSeenAsBefore, settled_now, quiet_now, kept_now}
 
 -- ---- an element in place of another
 
@@ -48,13 +48,13 @@ module _ (before after : Parts) (same : after.members ≡ before.members) (r : M
   itself_at : (place : ℕ) (m next : Member) → IsMemberAt place before after m next → m ≡ next
   itself_at place m next at = same_Some m next (sym at.was ∙ sym (same_at place) ∙ at.is)
 
-  still_itself : (m : Member) → IsReached before r m → IsStillAs m.router m.router
+  still_itself : (m : Member) → IsReached before r m → IsSeenAsBefore m.router m.router
   still_itself m is = record { number = refl; own = refl; reach = refl; known = λ id there. refl; used = settled.used m m is is; assigned = refl; rests = quiet m is }
 
-  pub still_later : AreStill before after r
+  pub still_later : AreSeenAsBefore before after r
   still_later = record {
     kept = λ place m next at. subst (IsKept m) (itself_at place m next at) (record { running = refl; attachments = refl; id = refl });
-    still = λ place m next at is. subst (λ (n : Member). IsStillAs m.router n.router) (itself_at place m next at) (still_itself m is);
+    still = λ place m next at is. subst (λ (n : Member). IsSeenAsBefore m.router n.router) (itself_at place m next at) (still_itself m is);
     was = λ place next at. (next, record { was = sym (same_at place) ∙ at; is = at });
     count = λ id. ap (count_by (runs_as id)) same;
   }
@@ -83,7 +83,7 @@ module _ (before after : Parts) (place : ℕ) (x : Member) (n : State) (there : 
     | inr other ↦ inr (same_Some m next (sym at.was ∙ sym (now_elsewhere k other) ∙ at.is))
   ]
 
-  module _ (id : n.id ≡ x.router.id) (x_still : IsReached before r x → IsStillAs x.router n) where
+  module _ (id : n.id ≡ x.router.id) (x_still : IsReached before r x → IsSeenAsBefore x.router n) where
     kept_tick : (k : ℕ) (m next : Member) → IsMemberAt k before after m next → IsKept m next
     kept_tick k m next at = elim (which k m next at) [
       | inl (was, is) ↦
@@ -92,16 +92,16 @@ module _ (before after : Parts) (place : ℕ) (x : Member) (n : State) (there : 
       | inr same ↦ subst (IsKept m) same (record { running = refl; attachments = refl; id = refl })
     ]
 
-    still_tick : (k : ℕ) (m next : Member) → IsMemberAt k before after m next → IsReached before r m → IsStillAs m.router next.router
-    still_tick k m next at reached = elim (which k m next at) [
+    undue_tick : (k : ℕ) (m next : Member) → IsMemberAt k before after m next → IsReached before r m → IsSeenAsBefore m.router next.router
+    undue_tick k m next at reached = elim (which k m next at) [
       | inl (was, is) ↦
-          let still : IsStillAs x.router n = x_still (subst (IsReached before r) was reached) in
-          subst (λ (a : Member). IsStillAs a.router next.router) (sym was) (subst (λ (b : Member). IsStillAs x.router b.router) (sym is) still)
+          let still : IsSeenAsBefore x.router n = x_still (subst (IsReached before r) was reached) in
+          subst (λ (a : Member). IsSeenAsBefore a.router next.router) (sym was) (subst (λ (b : Member). IsSeenAsBefore x.router b.router) (sym is) still)
       | inr same ↦
-          let still : IsStillAs m.router m.router =
+          let still : IsSeenAsBefore m.router m.router =
           record { number = refl; own = refl; reach = refl; known = λ id there. refl; used = settled.used m m reached reached; assigned = refl; rests = quiet m reached }
           in
-          subst (λ (b : Member). IsStillAs m.router b.router) same still
+          subst (λ (b : Member). IsSeenAsBefore m.router b.router) same still
     ]
 
     was_tick : (k : ℕ) (next : Member) → slice_get after.members k ≡ Some next → (m : Member) × IsMemberAt k before after m next
@@ -110,10 +110,10 @@ module _ (before after : Parts) (place : ℕ) (x : Member) (n : State) (there : 
       | inr other ↦ (next, record { was = sym (now_elsewhere k other) ∙ at; is = at })
     ]
 
-    pub tick_still : AreStill before after r
-    tick_still = record {
+    pub tick_undue : AreSeenAsBefore before after r
+    tick_undue = record {
       kept = kept_tick;
-      still = still_tick;
+      still = undue_tick;
       was = was_tick;
       count = λ some. ap (count_by (runs_as some)) gives ∙ count_put (runs_as some) before.members place x next_x there (ap (λ (i : NodeId). x.running && i.0 == some.0) id);
     }
@@ -140,7 +140,7 @@ pub record StayLaws : Type 0 where
 module _ (laws : StayLaws) (before after : Parts) (replays : IsReplayed before) (place : ℕ) (r next : Member) (here : IsMemberAt place before after r next)
     (runs : IsRunning before r) (settled : IsSettledByRules before r) (quiet : IsQuietByRules before r) where
   -- where the set is still, the router stays
-  pub stays_where_still : AreStill before after r → IsSettledByRules after next × IsQuietByRules after next × KeepAssignments before after r next
+  pub stays_where_still : AreSeenAsBefore before after r → IsSettledByRules after next × IsQuietByRules after next × KeepAssignments before after r next
   stays_where_still are =
       let self = itself before r (known_of laws.worlds before r replays runs settled) in (
         settled_now laws.rests.unique before after r next place here are self settled,
@@ -149,8 +149,8 @@ module _ (laws : StayLaws) (before after : Parts) (replays : IsReplayed before) 
       )
 
   -- a router of the set whose tick is restful is still
-  module _ (x : Member) (n : State) (done : Done) (reached : IsReached before r x) (happened : Happened before.moment Tick x.router n done) (restful : IsRestful before.moment x.router n) where
-    pub x_still : IsStillAs x.router n
+  module _ (x : Member) (n : State) (done : Done) (reached : IsReached before r x) (happened : Happened before.moment Tick x.router n done) (restful : IsCalmTick before.moment x.router n) where
+    pub x_still : IsSeenAsBefore x.router n
     x_still =
         let now = before.moment in
         let s = x.router in
@@ -167,7 +167,7 @@ module _ (laws : StayLaws) (before after : Parts) (replays : IsReplayed before) 
         } in
         let rest = quiet x reached in
         let was = rested laws.rests now s sound.router sound.past restful.uneventful rest run.after run.tick same in
-        let with_due : IsRested s (record run.after.state { due = run.due }) = record {
+        let with_due : IsKeptAtRest s (record run.after.state { due = run.due }) = record {
           id = was.id;
           number = was.number;
           own = was.own;
@@ -177,7 +177,7 @@ module _ (laws : StayLaws) (before after : Parts) (replays : IsReplayed before) 
           known = was.known;
           assigned = was.assigned;
         } in
-        let left : IsRested s n = subst (IsRested s) (sym run.is) with_due in
+        let left : IsKeptAtRest s n = subst (IsKeptAtRest s) (sym run.is) with_due in
         let moment = laws.moment now Tick s n done happened in
         record {
           number = left.number;
@@ -203,10 +203,10 @@ stays_tick laws name words notes before between after replays same does place r 
       was = acts.is_member;
       is = ap (λ (members : List Member). slice_get members does.place) gives ∙ put_there before.members does.place x (record x { router = n }) acts.is_member;
     } in
-    let still : IsReached before r x → IsStillAs x.router n = λ reached.
+    let still : IsReached before r x → IsSeenAsBefore x.router n = λ reached.
     x_still laws before after replays place r next here runs settled quiet x n acts.done reached acts.happened (calm does.place x (record x { router = n }) does.is_place at reached)
     in
-    stays_where_still laws before after replays place r next here runs settled quiet (tick_still before after does.place x n acts.is_member gives r settled quiet id still)
+    stays_where_still laws before after replays place r next here runs settled quiet (tick_undue before after does.place x n acts.is_member gives r settled quiet id still)
 
 -- the laws of a quiet home, and that it stays over deliveries
 stays_by : StayLaws → QuietStaysOverDeliveries → (event : WEvent) (words : List ℕ) (notes : List Note) (before after : Parts) → IsReplayed before

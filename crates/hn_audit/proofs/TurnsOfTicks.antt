@@ -2,12 +2,12 @@
 use Rattle.hn_base.proofs.Names.{◌≡◌, ◌∙◌, ◌⊎◌, ◌<◌, ◌≤◌, ◌-◌, ◌+◌, ℕ, true, List, [], ◌∷◌, length, Some, Contains, slice_get, inl, inr, refl, sym, ap, subst, arith, All-contains, same_Some}
 use Rattle.hn_base.proofs.Names.{slice_get-get_or}
 use Rattle.hn_audit.proofs.Names.{slice_set, contains_at, Port, port_at, Passing, Note, State, after_passing, Traced, WEvent, Member, Parts, IsReplayed, IsSoundMember, Does, IsCalmArrival, IsResting}
-use Rattle.hn_audit.proofs.Names.{IsRestfulEvent, AreHeardSince, ArePeersLinked, IsCalmSince, AreSendsHeardSince, GoesLossless, AreDelivered, HasTicked, GoesInTurns, IsReached, IsMemberAt, IsRestful}
+use Rattle.hn_audit.proofs.Names.{IsCalmSinceCopies, AreHeardSince, ArePeersLinked, IsCalmSince, AreSendsHeardSince, GoesLossless, AreDelivered, HasTicked, GoesInTurns, IsReached, IsMemberAt, IsCalmTick}
 use Rattle.hn_rules.specs.Updates.{TicksHaveSent}
 use Rattle.hn_world.specs.declared.event.WEvent.TheVariants as event
 use Rattle.hn_audit.specs.Heard.{heard_after, TicksAt, RestGoesInTurns}
 use Rattle.hn_audit.proofs.CalmDeliveries.{passed}
-use Rattle.hn_audit.proofs.RestsHeard.{restful_by, time_by}
+use Rattle.hn_audit.proofs.RestsHeard.{calm_by, time_by}
 use Rattle.hn_audit.proofs.RestsOnwards.{GoesOn, ran}
 use Rattle.hn_audit.proofs.RoundsRenewed.{RoundLaws, GoesOver, rests_now, steady_of, one_round, one_whole, heard_since, still_waiting, replays_all, none_goes, more_rounds, which_at}
 use Rattle.hn_audit.proofs.SendsHeard.{same_port, ports_by}
@@ -38,7 +38,7 @@ one_on before after a m0 next_x there gives r one k m then at reached = elim (wh
 ]
 
 sent_by : TurnLaws → (since : ℕ) (event : WEvent) (words : List ℕ) (notes : List Note) (before between after : Parts) → IsReplayed before → after.members ≡ between.members
-    → Does event words notes before between → (r : Member) → IsResting since before r → IsRestfulEvent since event before after r → EachSentOn before after r
+    → Does event words notes before between → (r : Member) → IsResting since before r → IsCalmSinceCopies since event before after r → EachSentOn before after r
 sent_by laws since (event.Time moment) words notes before between after replays same does r rest calm = λ k m then at reached.
     same_on before m then (same_Some m then (sym at.was ∙ ap (λ (members : List Member). slice_get members k) (sym (same ∙ ap (λ (w : Parts). w.members) does.gives)) ∙ at.is))
 sent_by laws since (event.Drop copy) words notes before between after replays same does r rest calm = λ k m then at reached.
@@ -57,7 +57,7 @@ sent_by laws since (event.Tick name) words notes before between after replays sa
     let sound : IsSoundMember before.moment x =
     All-contains (IsSoundMember before.moment) before.members x (laws.rounds.heard.resting.calm.stay.worlds.sound before replays) (contains_at before.members does.place x acts.is_member) in
     one_on before after does.place x next_x acts.is_member gives r (λ reached p p_in.
-    let restful : IsRestful before.moment x.router n = calm does.place x next_x does.is_place at_x reached in
+    let restful : IsCalmTick before.moment x.router n = calm does.place x next_x does.is_place at_x reached in
     let there : Contains run.after.state.ports p = subst (λ (s : State). Contains s.ports p) run.is p_in in
     let moved = laws.rounds.heard.peers before.moment x.router run.after sound.router sound.past restful.uneventful run.tick p there in (
       moved.was,
@@ -157,7 +157,7 @@ ends_late laws start moment k heard since place (t ∷ ts) before after r replay
     let one = first.heard_on in
     let goes = one.goes in
     let same : between.members ≡ (step.between).members = ap (λ (w : Parts). w.members) step.gives in
-    let calm = restful_by laws.rounds.heard heard since t.event before between r replays rest peers (steady_of heard since t.event before between r (lossless r at)) in
+    let calm = calm_by laws.rounds.heard heard since t.event before between r replays rest peers (steady_of heard since t.event before between r (lossless r at)) in
     let each = sent_by laws since t.event t.words notes before step.between between replays same step.does r rest calm in
     let on = time_by since t.event t.words notes before step.between between step.accepted step.does r calm in
     let moment_is : between.moment ≡ (step.between).moment = ap (λ (w : Parts). w.moment) step.gives in

@@ -161,22 +161,22 @@ act_of name wish (Some c) None = act.Drops name wish.endpoint wish.delegated c.p
 act_of name wish (Some c) (Some best) = act.Changes name wish.endpoint wish.delegated c.prefix best.prefix
 
 -- a wished pair is not at rest
-pub record IsRestless (name : Name) (advertised : List Advertised) (own : ℕ) (assigned : List Assigned) (wish : Wish) (u : Unquiet) : Type 0 where
+pub record IsNotAtRest (name : Name) (advertised : List Advertised) (own : ℕ) (assigned : List Assigned) (wish : Wish) (u : Unquiet) : Type 0 where
   pub assignment : Option Assigned
   pub has : HasAt assigned_pair (wish_pair wish) assignment assigned
   pub best : Option Advertised
   pub is_best : IsBestIfAny advertised own wish.common wish.delegated best
-  pub restless : ¬ IsAtRest advertised own wish assignment
+  pub not_at_rest : ¬ IsAtRest advertised own wish assignment
   pub is : u ≡ act_of name wish assignment best
 
-abbrev pub FindsRestless : Name → List Advertised → ℕ → List Assigned → Wish → Option Unquiet → Type 0
-FindsRestless name advertised own assigned wish None = IsWishAtRest advertised own assigned wish
-FindsRestless name advertised own assigned wish (Some u) = IsRestless name advertised own assigned wish u
+abbrev pub FindsNotAtRest : Name → List Advertised → ℕ → List Assigned → Wish → Option Unquiet → Type 0
+FindsNotAtRest name advertised own assigned wish None = IsWishAtRest advertised own assigned wish
+FindsNotAtRest name advertised own assigned wish (Some u) = IsNotAtRest name advertised own assigned wish u
 
 -- of a router: the first assignment for a pair that it does not ask for, or else the first pair that is not at rest
 abbrev pub FindsAct : Name → List Advertised → ℕ → List Assigned → List Wish → Option Unquiet → Type 0
 FindsAct name advertised own assigned wishes =
-    OrElse (IsFirstFound (FindsUnasked name wishes) assigned) (IsFirstFound (FindsRestless name advertised own assigned) wishes)
+    OrElse (IsFirstFound (FindsUnasked name wishes) assigned) (IsFirstFound (FindsNotAtRest name advertised own assigned) wishes)
 
 pub record FindsOfRouter (s : Member) (u : Option Unquiet) : Type 0 where
   pub outlook : Outlook s.router

@@ -114,12 +114,12 @@ abbrev pub WitnessRefutesQuiet : Type 0
 WitnessRefutesQuiet = (w : Parts) (r : Member) (witness : Unquiet) → Disturbs w r witness → ¬ IsQuietByRules w r
 
 -- a router of the set of r is not at rest
-abbrev pub HasRestless : Parts → Member → Type 0
-HasRestless w r = (s : Member) × IsReached w r s × ¬ IsRouterAtRest s.router
+abbrev pub HasOneNotAtRest : Parts → Member → Type 0
+HasOneNotAtRest w r = (s : Member) × IsReached w r s × ¬ IsRouterAtRest s.router
 
 -- What it says names one that is not at rest.
-abbrev pub WitnessNamesRestless : Type 0
-WitnessNamesRestless = (w : Parts) (r : Member) (witness : Unquiet) → Disturbs w r witness → HasRestless w r
+abbrev pub WitnessNamesOneNotAtRest : Type 0
+WitnessNamesOneNotAtRest = (w : Parts) (r : Member) (witness : Unquiet) → Disturbs w r witness → HasOneNotAtRest w r
 
 -- At most one answer is the first witness by which a router is not settled: a witness, or none.
 abbrev pub UnsettledIsOne : Type 0

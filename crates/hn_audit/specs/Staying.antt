@@ -7,8 +7,8 @@ use Rattle.hn_assign.specs.Fixed.{AreAssignmentsUnchanged}
 use Rattle.hn_rules.specs.declared.done.Note.{Note}
 use Rattle.hn_rules.specs.declared.running.Origin.{Origin}
 use Rattle.hn_rules.specs.declared.state.State.{State}
-use Rattle.hn_rules.specs.Still.{IsUneventful}
-use Rattle.hn_rules.specs.Updates.{IsPeersUpdate, IsYoung}
+use Rattle.hn_rules.specs.Undue.{IsKeptUndue}
+use Rattle.hn_rules.specs.Updates.{IsPeersUpdate, AreAgesUndue}
 use Rattle.hn_world.specs.declared.copies.MailCopy.{MailCopy}
 use Rattle.hn_world.specs.declared.event.Traced.{Traced}
 use Rattle.hn_world.specs.declared.event.WEvent.{WEvent}
@@ -29,8 +29,8 @@ pub record IsMemberAt (place : ℕ) (before after : Parts) (m next : Member) : T
 
 -- A router's tick at that moment has no cause to change what it says or reaches, and it uses and wants afterwards what it
 -- did before.
-pub record IsRestful (now : ℕ) (before after : State) : Type 0 where
-  pub uneventful : IsUneventful now before
+pub record IsCalmTick (now : ℕ) (before after : State) : Type 0 where
+  pub uneventful : IsKeptUndue now before
   pub used : UseSame before after
 
 -- ---- a delivery
@@ -47,7 +47,7 @@ IsCurrent mail s = IsPeersUpdate (origin_of mail) mail.bytes s
 -- a current copy arrives while the node data are young, and its router uses and wants afterwards what it did before
 pub record IsCalmArrival (now : ℕ) (mail : MailCopy) (before after : State) : Type 0 where
   pub current : IsCurrent mail before
-  pub young : IsYoung now before
+  pub young : AreAgesUndue now before
   pub used : UseSame before after
 
 -- The router to which a copy goes keeps its identifier, and if it is one of the set of r, the arrival is calm.
@@ -64,7 +64,7 @@ abbrev pub IsCalm : WEvent → Parts → Parts → Member → Type 0
 IsCalm (event.Time moment) before after r = Unit {0}
 IsCalm (event.Tick name) before after r =
     (place : ℕ) (x next : Member) → router_place (name_text name) before ≡ Some place → IsMemberAt place before after x next
-    → IsReached before r x → IsRestful before.moment x.router next.router
+    → IsReached before r x → IsCalmTick before.moment x.router next.router
 IsCalm (event.Deliver copy) before after r = IsCalmDelivery copy before after r
 IsCalm _ before after r = ⊥
 

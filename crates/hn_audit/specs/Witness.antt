@@ -180,7 +180,7 @@ pub record WouldDrop (w : Parts) (r : Member) (router : Name) (endpoint : EpId) 
   pub of_prefix : assignment.prefix ≡ prefix
   pub pair : AsksFor w r router endpoint delegated (Some assignment)
   pub no_best : HasNoBest pair.outlook.advertised pair.one.router.id.0 pair.wish.common pair.wish.delegated
-  pub restless : ¬ IsAtRest pair.outlook.advertised pair.one.router.id.0 pair.wish (Some assignment)
+  pub not_at_rest : ¬ IsAtRest pair.outlook.advertised pair.one.router.id.0 pair.wish (Some assignment)
 
 -- it has one, this is the best prefix, and the pair is not at rest
 pub record WouldChange (w : Parts) (r : Member) (router : Name) (endpoint : EpId) (delegated prefix best : PlainPrefix) : Type 0 where
@@ -190,7 +190,7 @@ pub record WouldChange (w : Parts) (r : Member) (router : Name) (endpoint : EpId
   pub advertised : Advertised
   pub is_best : IsBest pair.outlook.advertised pair.one.router.id.0 pair.wish.common pair.wish.delegated advertised
   pub of_best : advertised.prefix ≡ best
-  pub restless : ¬ IsAtRest pair.outlook.advertised pair.one.router.id.0 pair.wish (Some assignment)
+  pub not_at_rest : ¬ IsAtRest pair.outlook.advertised pair.one.router.id.0 pair.wish (Some assignment)
 
 -- what a witness says, by which r is not quiet
 abbrev pub Disturbs : Parts → Member → Unquiet → Type 0

@@ -3,7 +3,7 @@
 ghost use Rattle.hn_world.specs.Leaves.{EqualHashesAgree};
 ghost use Rattle.hn_audit.specs.Laws.{SettledAndQuietIsSound, ReplayedElectAlike, AlwaysSettledElectAlike, SetIsSoundAlike, SettledSeeEachOther};
 ghost use Rattle.hn_audit.specs.Laws.{AlwaysSettledAreSound, IsOfEachFront, SettledAreSoundByRules, RestKeepsAssignments};
-ghost use Rattle.hn_audit.specs.Laws.{RestHasARun, UnchangedIsAtRest, AnewHasARun, WitnessRefutesSettled, WitnessRefutesQuiet, WitnessNamesRestless, UnsettledIsOne, UnquietIsOne};
+ghost use Rattle.hn_audit.specs.Laws.{RestHasARun, UnchangedIsAtRest, AnewHasARun, WitnessRefutesSettled, WitnessRefutesQuiet, WitnessNamesOneNotAtRest, UnsettledIsOne, UnquietIsOne};
 ghost use Rattle.hn_audit.specs.Calm.{SettledHaveOneHash, QuietStaysOverDeliveries, RestGoesOn, RestLasts};
 ghost use Rattle.hn_audit.specs.Heard.{RestLastsWhileHeard, RoundRenews, RestGoesInRounds, RestGoesInTurns};
 ghost use Rattle.hn_audit.specs.Lasting.{CalmComesAndLasts, CalmHomesAlwaysStay};
@@ -21,9 +21,9 @@ use hn_deleg::{
 use hn_link::{common_link_exists, common_link_of_later};
 use hn_router::{endpoints_follow, moment_is_now, one_result};
 use hn_rules::{
-    assigned_is_published, changes_keep_hashed, entries_are_as_known, hash_is_of_leaves,
-    items_are_published, own_interval_is_default, own_peers_are_of_endpoints, peers_are_attached,
-    private_post_is_alone, restful_tick, restful_tick_leaves_ages, restful_tick_moves_ports,
+    assigned_is_published, calm_tick, calm_tick_leaves_ages, calm_tick_moves_ports,
+    changes_keep_hashed, entries_are_as_known, hash_is_of_leaves, items_are_published,
+    own_interval_is_default, own_peers_are_of_endpoints, peers_are_attached, private_post_is_alone,
     tick_keeps_the_identifier, ticks_have_sent, ticks_send_status_updates,
     updates_of_peers_are_let_pass, used_where_assigned, view_is_a_network, view_of_later,
     wishes_exist,
@@ -159,7 +159,7 @@ pub fn quiet_homes_stay()
     entries_are_as_known();
     moment_is_now();
     tick_keeps_the_identifier();
-    restful_tick();
+    calm_tick();
     used_where_assigned();
     view_of_later();
     usable_is_unique();
@@ -184,7 +184,7 @@ pub fn quiet_homes_always_stay()
 pub fn witness_refutes()
     ensures settled { WitnessRefutesSettled }
     ensures quiet { WitnessRefutesQuiet }
-    ensures restless { WitnessNamesRestless }
+    ensures not_at_rest { WitnessNamesOneNotAtRest }
 {
     pairs_are_ordered();
     rest_knows_no_order();
@@ -229,7 +229,7 @@ pub fn quiet_homes_stay_over_deliveries()
     entries_are_as_known();
     moment_is_now();
     tick_keeps_the_identifier();
-    restful_tick();
+    calm_tick();
     used_where_assigned();
     view_of_later();
     usable_is_unique();
@@ -256,7 +256,7 @@ pub fn rest_goes_on()
     entries_are_as_known();
     moment_is_now();
     tick_keeps_the_identifier();
-    restful_tick();
+    calm_tick();
     used_where_assigned();
     view_of_later();
     usable_is_unique();
@@ -285,7 +285,7 @@ pub fn rest_lasts_while_heard()
     entries_are_as_known();
     moment_is_now();
     tick_keeps_the_identifier();
-    restful_tick();
+    calm_tick();
     used_where_assigned();
     view_of_later();
     usable_is_unique();
@@ -301,7 +301,7 @@ pub fn rest_lasts_while_heard()
     hash_is_of_leaves();
     changes_keep_hashed();
     own_interval_is_default();
-    restful_tick_moves_ports();
+    calm_tick_moves_ports();
 }
 
 /// A round without loss renews the contacts of peers, so a settled and quiet router stays so over the next one too.
@@ -316,7 +316,7 @@ pub fn round_renews()
     entries_are_as_known();
     moment_is_now();
     tick_keeps_the_identifier();
-    restful_tick();
+    calm_tick();
     used_where_assigned();
     view_of_later();
     usable_is_unique();
@@ -333,7 +333,7 @@ pub fn round_renews()
     hash_is_of_leaves();
     changes_keep_hashed();
     own_interval_is_default();
-    restful_tick_moves_ports();
+    calm_tick_moves_ports();
     list_is_unique();
     item_is_unique();
 }
@@ -350,7 +350,7 @@ pub fn rest_goes_in_turns()
     entries_are_as_known();
     moment_is_now();
     tick_keeps_the_identifier();
-    restful_tick();
+    calm_tick();
     used_where_assigned();
     view_of_later();
     usable_is_unique();
@@ -367,7 +367,7 @@ pub fn rest_goes_in_turns()
     hash_is_of_leaves();
     changes_keep_hashed();
     own_interval_is_default();
-    restful_tick_moves_ports();
+    calm_tick_moves_ports();
     list_is_unique();
     item_is_unique();
     ticks_have_sent();
@@ -385,7 +385,7 @@ pub fn calm_comes_and_lasts()
     entries_are_as_known();
     moment_is_now();
     tick_keeps_the_identifier();
-    restful_tick();
+    calm_tick();
     used_where_assigned();
     view_of_later();
     usable_is_unique();
@@ -402,13 +402,13 @@ pub fn calm_comes_and_lasts()
     hash_is_of_leaves();
     changes_keep_hashed();
     own_interval_is_default();
-    restful_tick_moves_ports();
+    calm_tick_moves_ports();
     list_is_unique();
     item_is_unique();
     ticks_have_sent();
     usable_of_later();
     ends_of_later();
-    restful_tick_leaves_ages();
+    calm_tick_leaves_ages();
 }
 
 /// So it is from each moment of a replayed world's past on.

@@ -5,7 +5,7 @@ ghost use Rattle.std.specs.Prelude.{◌≡◌, ◌↔◌, ◌≤◌, IsTrue, IfO
 ghost use Rattle.hn_assign.specs.Facts.{AreWishes};
 ghost use Rattle.hn_assign.specs.Pair.{IsAscending, IsWished, assigned_pair, wish_pair};
 ghost use Rattle.hn_audit.specs.First.{IsFirstFound};
-ghost use Rattle.hn_audit.specs.FirstWitness.{act_of, FindsUnasked, FindsRestless, FindsAct, FindsOfRouter};
+ghost use Rattle.hn_audit.specs.FirstWitness.{act_of, FindsUnasked, FindsNotAtRest, FindsAct, FindsOfRouter};
 ghost use Rattle.hn_audit.specs.Set.{members_of};
 
 use crate::witness::Unquiet;
@@ -99,7 +99,7 @@ fn act_of(
 /// What a router would do at a pair that it asks for.
 fn act_at(s: &Member, known: &Index, wish: &Wish) -> Option<Unquiet>
     requires { wish.now.length ≤ 64 }
-    ensures { FindsRestless s.now.name known.now s.now.router.id.0 s.now.router.held.assigned wish.now result }
+    ensures { FindsNotAtRest s.now.name known.now s.now.router.id.0 s.now.router.held.assigned wish.now result }
 {
     pairs_are_ordered();
     let assigned = &s.router.held().assigned;
@@ -119,9 +119,9 @@ fn act_at(s: &Member, known: &Index, wish: &Wish) -> Option<Unquiet>
 }
 
 /// What a router would do at the first pair that is not at rest.
-fn first_restless(s: &Member, known: &Index, wishes: &[Wish]) -> Option<Unquiet>
+fn first_not_at_rest(s: &Member, known: &Index, wishes: &[Wish]) -> Option<Unquiet>
     requires { AreWishes wishes.now }
-    ensures { IsFirstFound (FindsRestless s.now.name known.now s.now.router.id.0 s.now.router.held.assigned) wishes.now result }
+    ensures { IsFirstFound (FindsNotAtRest s.now.name known.now s.now.router.id.0 s.now.router.held.assigned) wishes.now result }
 {
     for wish in wishes {
         if let Some(found) = act_at(s, known, wish) {
@@ -140,7 +140,7 @@ fn first_act(s: &Member, known: &Index, wishes: &[Wish]) -> Option<Unquiet>
     if let Some(found) = first_unasked(s, wishes) {
         return Some(found);
     }
-    first_restless(s, known, wishes)
+    first_not_at_rest(s, known, wishes)
 }
 
 /// What a router would do first, if it is not at rest.

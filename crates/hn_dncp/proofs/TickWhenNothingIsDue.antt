@@ -4,11 +4,11 @@ use Rattle.hn_dncp.proofs.Names.{silence_end}
 use Rattle.std.proofs.Common.{◌&&◌, ◌||◌}
 use Rattle.hn_timers.specs.Interval.{Interval, interval_from, has_to_send, fired, is_interval_over}
 use Rattle.hn_timers.specs.Length.{next_length}
-use Rattle.hn_timers.specs.KeepAlive.{is_silent}
-use Rattle.hn_timers.specs.Laws.{StillIntervalStays}
-use Rattle.hn_dncp.specs.Due.{IsPortStill, IsIdleAt}
+use Rattle.hn_timers.specs.KeepAlive.{is_keep_alive_due}
+use Rattle.hn_timers.specs.Laws.{UndueIntervalStays}
+use Rattle.hn_dncp.specs.Due.{IsPortUndue, IsIdleAt}
 use Rattle.hn_dncp.specs.Tick.{after_firing, after_interval, after_keep_alive, interval_words, has_keep_alive, ticked}
-use Rattle.hn_dncp.specs.Laws.{StillPortIsIdle, StillPortStays}
+use Rattle.hn_dncp.specs.Laws.{UnduePortIsIdle, UnduePortStays}
 use Rattle.hn_dncp.specs.declared.port.Port.{Port}
 
 -- ---- tests
@@ -50,18 +50,18 @@ module _ (now : ℕ) (p : Port) where
   interval_same : (word : ℕ) → is_interval_over now i ≡ false → after_interval now word p ≡ p
   interval_same word ended = ap (λ (b : Bool). let q : Port = record p { trickle = cond b (interval_from now (next_length i.len) word) i } in q) ended
 
-  keep_alive_same : (word : ℕ) → is_silent p.sent now ≡ false → after_keep_alive now word p ≡ p
+  keep_alive_same : (word : ℕ) → is_keep_alive_due p.sent now ≡ false → after_keep_alive now word p ≡ p
   keep_alive_same word silent =
       ap (λ (b : Bool). let q : Port = record p { trickle = cond b (interval_from now i.len word) i; sent = cond b now p.sent } in q) silent
 
-  pub idle : IsPortStill now p → IsIdleAt now p
+  pub idle : IsPortUndue now p → IsIdleAt now p
   idle still =
       let waits : (i.done ≡ true) ⊎ (nat_le i.fire now ≡ false) = elim still.interval.waits [ inl done ↦ inl done | inr before ↦ inr (lt-leb i.fire now before) ] in
       let sends : has_to_send now i ≡ false = not_sent i.done (nat_le i.fire now) (i.heard == 0) waits in
       let firing = firing_same (stays_done i.done (nat_le i.fire now) waits) sends in
       let ended : is_interval_over now i ≡ false = lt-leb (i.begin + i.len) now still.interval.lasts in
-      let silent : is_silent p.sent now ≡ false = (let recent = still.recent in lt-leb 20000 (now - p.sent) (omega (arith, recent))) in
-      let keep : has_keep_alive now p ≡ false = ap (λ (q : Port). is_silent q.sent now) firing ∙ silent in
+      let silent : is_keep_alive_due p.sent now ≡ false = (let recent = still.recent in lt-leb 20000 (now - p.sent) (omega (arith, recent))) in
+      let keep : has_keep_alive now p ≡ false = ap (λ (q : Port). is_keep_alive_due q.sent now) firing ∙ silent in
       record {
         untaken = ap (λ (b : Bool). cond b 1 0 + cond (has_keep_alive now p) 1 0) ended ∙ ap (λ (b : Bool). 0 + cond b 1 0) keep;
         unsent = ap (λ (b : Bool). b || has_keep_alive now p) sends ∙ keep;
@@ -70,11 +70,11 @@ module _ (now : ℕ) (p : Port) where
             ∙ keep_alive_same (slice_index [] (interval_words now p)) silent;
       }
 
-  pub still : IsIdleAt now p → IsPortStill now p
+  pub still : IsIdleAt now p → IsPortUndue now p
   still is =
       let none = none_or (has_to_send now i) (has_keep_alive now p) is.unsent in
       let ended : is_interval_over now i ≡ false = no_word (is_interval_over now i) (cond (has_keep_alive now p) 1 0) is.untaken in
-      let silent : is_silent p.sent now ≡ false = sym (ap (λ (b : Bool). is_silent (cond b now p.sent) now) none.0) ∙ none.1 in
+      let silent : is_keep_alive_due p.sent now ≡ false = sym (ap (λ (b : Bool). is_keep_alive_due (cond b now p.sent) now) none.0) ∙ none.1 in
       let next : Port = after_interval now (slice_index [] 0) (after_firing now p) in
       let before : (ticked now [] p).trickle.done ≡ next.trickle.done =
       ap (λ (b : Bool). (let t : Interval = cond b (interval_from now next.trickle.len (slice_index [] (interval_words now p))) next.trickle in t).done) none.1
@@ -91,10 +91,10 @@ module _ (now : ℕ) (p : Port) where
         recent = (let less = leb-false 20000 (now - p.sent) silent in omega (arith, less));
       }
 
-pub still_is_idle : StillPortIsIdle
-still_is_idle now port = (idle now port, still now port)
+pub undue_is_idle : UnduePortIsIdle
+undue_is_idle now port = (idle now port, still now port)
 
-pub still_later : StillIntervalStays → StillPortStays
+pub still_later : UndueIntervalStays → UnduePortStays
 still_later interval_stays port now later goes is none = record {
   interval = interval_stays port.trickle now later goes is.interval (λ m due after. none m (inl due) after);
   recent = none (silence_end port.sent) (inr refl) is.recent;

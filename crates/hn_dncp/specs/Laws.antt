@@ -9,7 +9,7 @@ use Rattle.hn_dncp.specs.Peers.{ArePeers}
 use Rattle.hn_dncp.specs.Greet.{peers_heard}
 use Rattle.hn_dncp.specs.Hash.{contacted}
 use Rattle.hn_dncp.specs.Packing.{IsPacking, IsShortDatagram, AreRead}
-use Rattle.hn_dncp.specs.Due.{IsPortDue, IsPortStill, IsIdleAt}
+use Rattle.hn_dncp.specs.Due.{IsPortDue, IsPortUndue, IsIdleAt}
 
 -- There is at most one packing of a list of TLVs.
 abbrev pub PackingIsUnique : Type 0
@@ -50,11 +50,11 @@ ContactKeepsPeers =
     → ArePeers (contacted sender now peers)
 
 -- A tick does nothing at an endpoint if and only if nothing is due there.
-abbrev pub StillPortIsIdle : Type 0
-StillPortIsIdle = (now : ℕ) (port : Port) → IsPortStill now port ↔ IsIdleAt now port
+abbrev pub UnduePortIsIdle : Type 0
+UnduePortIsIdle = (now : ℕ) (port : Port) → IsPortUndue now port ↔ IsIdleAt now port
 
 -- Where nothing is due at an endpoint, nothing is until something is.
-abbrev pub StillPortStays : Type 0
-StillPortStays =
-    (port : Port) (now later : ℕ) → now ≤ later → IsPortStill now port → ((m : ℕ) → IsPortDue port m → now < m → later < m)
-    → IsPortStill later port
+abbrev pub UnduePortStays : Type 0
+UnduePortStays =
+    (port : Port) (now later : ℕ) → now ≤ later → IsPortUndue now port → ((m : ℕ) → IsPortDue port m → now < m → later < m)
+    → IsPortUndue later port

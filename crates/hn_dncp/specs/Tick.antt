@@ -2,7 +2,7 @@
 use Rattle.std.specs.Prelude.{ℕ, ◌+◌, Bool, ◌||◌, if◌then◌else◌, List, slice_index, take}
 use Rattle.hn_timers.specs.Interval.{interval_from, has_to_send, fired, is_interval_over}
 use Rattle.hn_timers.specs.Length.{next_length}
-use Rattle.hn_timers.specs.KeepAlive.{is_silent}
+use Rattle.hn_timers.specs.KeepAlive.{is_keep_alive_due}
 use Rattle.hn_dncp.specs.declared.port.Port.{Port}
 use Rattle.hn_dncp.specs.declared.tick.Renewed.{Renewed}
 
@@ -23,13 +23,13 @@ after_interval now word port = record port {
 -- a keep-alive is sent where one is due, and an interval of the same length begins with this word
 abbrev pub after_keep_alive : ℕ → ℕ → Port → Port
 after_keep_alive now word port = record port {
-  trickle = if is_silent port.sent now then interval_from now port.trickle.len word else port.trickle;
-  sent = if is_silent port.sent now then now else port.sent;
+  trickle = if is_keep_alive_due port.sent now then interval_from now port.trickle.len word else port.trickle;
+  sent = if is_keep_alive_due port.sent now then now else port.sent;
 }
 
 -- whether a keep-alive is due in this tick: it is not where Trickle sends
 abbrev pub has_keep_alive : ℕ → Port → Bool
-has_keep_alive now port = is_silent (after_firing now port).sent now
+has_keep_alive now port = is_keep_alive_due (after_firing now port).sent now
 
 -- how many words the next interval takes
 abbrev pub interval_words : ℕ → Port → ℕ

@@ -1,6 +1,6 @@
 ghost use Rattle.std.specs.Prelude.{◌↔◌, IsTrue};
 ghost use Rattle.hn_base.specs.Sooner.{IsSooner};
-ghost use Rattle.hn_dncp.specs.Due.{IsPortDue, IsPortStill};
+ghost use Rattle.hn_dncp.specs.Due.{IsPortDue, IsPortUndue};
 
 use crate::port::Port;
 use hn_base::Moment;
@@ -8,10 +8,10 @@ use hn_timers::{next_silence, silent};
 
 impl Port {
     /// Whether nothing is due: in the interval, and no keep-alive. Never allocates.
-    pub fn is_still(&self, now: Moment) -> bool
-        ensures { IsTrue result ↔ IsPortStill now self.now }
+    pub fn is_port_undue(&self, now: Moment) -> bool
+        ensures { IsTrue result ↔ IsPortUndue now self.now }
     {
-        self.trickle.is_still(now) && !silent(self.sent, now)
+        self.trickle.is_port_undue(now) && !silent(self.sent, now)
     }
 
     /// The first moment after now and before `best` at which something is due here; else `best`. Never allocates.

@@ -2,9 +2,9 @@
 //!
 //! Each is the contract of a function that does nothing: call it to know its law.
 
-ghost use Rattle.hn_dncp.specs.Laws.{PackingIsUnique, PackingExists, PackingIsShort, PackingIsNotEmpty, PackingIsRead, MeetingKeepsPeers, ContactKeepsPeers, StillPortIsIdle, StillPortStays};
+ghost use Rattle.hn_dncp.specs.Laws.{PackingIsUnique, PackingExists, PackingIsShort, PackingIsNotEmpty, PackingIsRead, MeetingKeepsPeers, ContactKeepsPeers, UnduePortIsIdle, UnduePortStays};
 
-use hn_timers::still_interval_stays;
+use hn_timers::undue_interval_stays;
 
 /// There is at most one packing of a list of TLVs.
 pub fn packing_is_unique()
@@ -39,13 +39,13 @@ pub fn peers_stay()
 {}
 
 /// A tick does nothing at an endpoint if and only if nothing is due there.
-pub fn still_port()
-    ensures { StillPortIsIdle }
+pub fn undue_port()
+    ensures { UnduePortIsIdle }
 {}
 
 /// Where nothing is due at an endpoint, nothing is until something is.
-pub fn still_port_stays()
-    ensures { StillPortStays }
+pub fn undue_port_stays()
+    ensures { UnduePortStays }
 {
-    still_interval_stays();
+    undue_interval_stays();
 }

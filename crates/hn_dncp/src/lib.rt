@@ -16,7 +16,7 @@ pub use ask::LEAST_TIME_BETWEEN_REQUESTS;
 pub use greet::Greet;
 pub use laws::{
     packing_exists, packing_is_not_empty, packing_is_read, packing_is_short, packing_is_unique,
-    peers_stay, still_port, still_port_stays,
+    peers_stay, undue_port, undue_port_stays,
 };
 pub use packing::{Datagrams, MOST_DATAGRAM_BYTES, pack};
 pub use peers::{MOST_PEERS, Neighbour, Peers};

@@ -2,7 +2,7 @@ ghost use Rattle.std.specs.Prelude.{◌≡◌, ◌++◌, ◌-◌, ◌^◌, ◌�
 ghost use Rattle.std.specs.Option.{option_to_list};
 ghost use Rattle.hn_base.specs.Words.{Took};
 ghost use Rattle.hn_timers.specs.Interval.{has_to_send, is_interval_over};
-ghost use Rattle.hn_timers.specs.KeepAlive.{is_silent};
+ghost use Rattle.hn_timers.specs.KeepAlive.{is_keep_alive_due};
 ghost use Rattle.hn_dncp.specs.Tick.{after_firing, after_interval, after_keep_alive, tick_words, ticked, tick_sends, words_of_tick};
 
 use crate::port::Port;
@@ -64,7 +64,7 @@ impl Port {
     fn keep_alive<D: Draw>(&mut self, now: Moment, draw: &mut D) -> Option<u32>
         requires { now ≤ 2 ^ 48 }
         ensures port { self.new ≡ after_keep_alive now (unwrap_or result 0) self.old }
-        ensures word { is_some result ≡ is_silent self.old.sent now }
+        ensures word { is_some result ≡ is_keep_alive_due self.old.sent now }
         ensures drew { Took (D.words draw.old) (option_to_list result) (D.words draw.new) }
     {
         if !silent(self.sent, now) {

@@ -1,6 +1,6 @@
 -- Paths among nodes that say as much of their peers.
 use Rattle.hn_base.proofs.Names.{◌≡◌, ◌∙◌, ℕ, List, Contains, sym, subst}
-use Rattle.hn_graph.proofs.Names.{HasPeer, peer_link, Entry, AreAdjacent, IsRecent, IsReachable}
+use Rattle.hn_graph.proofs.Names.{HasPeer, peer_link, Entry, AreAdjacent, IsLeadingOn, IsReachable}
 use Rattle.hn_graph.specs.Following.{SaysAsMuch, SayAsMuch, ReachabilityFollows}
 use Rattle.hn_graph.proofs.Ways.{HasWay, way_to_own, way_further, path_from_way, along_path}
 
@@ -27,7 +27,7 @@ module _ (own : ℕ) (before after : List Entry) (say : SayAsMuch before after) 
       let next = say x there in
       record { node = next.0; there = next.1; way = way_to_own own after next.0 next.1 (next.2.id ∙ is_own); like = next.2 }
 
-  step : (x z : Entry) → HasOtherWay x → IsRecent x → AreAdjacent x z → Contains before z → HasOtherWay z
+  step : (x z : Entry) → HasOtherWay x → IsLeadingOn x → AreAdjacent x z → Contains before z → HasOtherWay z
   step x z was recent are there =
       let next = say z there in
       let further = way_further own after was.node next.0 was.way (was.like.recent recent) (adjacent_too x z was.node next.0 was.like next.2 are) next.1 in

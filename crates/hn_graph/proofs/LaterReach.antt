@@ -1,6 +1,6 @@
 -- Reachability while time passes.
 use Rattle.hn_base.proofs.Names.{◌↔◌, ℕ, ◌+◌, ◌-◌, ◌^◌, ◌<◌, List, Contains, refl, sym, subst, arith}
-use Rattle.hn_graph.proofs.Names.{Entry, IsAgeLimit, IsRecent, IsReachable, IsLike, KeepsReach}
+use Rattle.hn_graph.proofs.Names.{Entry, IsAgeLimit, IsLeadingOn, IsReachable, IsLike, KeepsReach}
 use Rattle.hn_base.proofs.AscendingLists.{Contains-map, Contains-from_map}
 use Rattle.hn_data.specs.View.{PlainView}
 use Rattle.hn_data.specs.Later.{IsLater, aged_entry}
@@ -8,8 +8,8 @@ use Rattle.hn_graph.specs.Laws.{ReachabilityOfLater}
 use Rattle.hn_graph.proofs.Staying.{reach_stays}
 
 module _ (before after : PlainView) (later : IsLater before after) (none : (m : ℕ) → IsAgeLimit before.nodes before.now m → before.now < m → after.now < m) where
-  still_recent : (x : Entry) → Contains before.nodes x → IsRecent x → IsRecent (aged_entry later.time x)
-  still_recent x there recent =
+  leads_on_still : (x : Entry) → Contains before.nodes x → IsLeadingOn x → IsLeadingOn (aged_entry later.time x)
+  leads_on_still x there recent =
       let limit = none (before.now + (2 ^ 32 - 2 ^ 15 - x.age)) (x, there, refl) (omega (arith, recent)) in
       let now = later.now in
       omega (arith, recent, limit, now)
@@ -18,7 +18,7 @@ module _ (before after : PlainView) (later : IsLater before after) (none : (m : 
   kept x there = (
     aged_entry later.time x,
     subst (λ (nodes : List Entry). Contains nodes (aged_entry later.time x)) (sym later.nodes) (Contains-map (aged_entry later.time) before.nodes x there),
-    record { id = refl; body = refl; recent = still_recent x there },
+    record { id = refl; body = refl; recent = leads_on_still x there },
   )
 
   known : (y : Entry) → Contains after.nodes y → (x : Entry) × Contains before.nodes x × IsLike y x

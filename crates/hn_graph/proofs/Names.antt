@@ -10,5 +10,5 @@ pub use Rattle.hn_data.specs.declared.said.PeerLink.{PeerLink}
 pub use Rattle.hn_data.specs.declared.view.Entry.{Entry}
 pub use Rattle.hn_graph.specs.Later.{IsAgeLimit}
 pub use Rattle.hn_graph.specs.Laws.{IsLike, KeepsReach}
-pub use Rattle.hn_graph.specs.Path.{AreAdjacent, IsReachable, IsRecent}
+pub use Rattle.hn_graph.specs.Path.{AreAdjacent, IsReachable, IsLeadingOn}
 pub use Rattle.hn_graph.specs.Search.{ArePlacesNext, HasFound, HasMarked, IsNext, IsPlaceMarked}

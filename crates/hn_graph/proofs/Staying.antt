@@ -1,6 +1,6 @@
 -- Paths among other nodes.
 use Rattle.hn_base.proofs.Names.{◌≡◌, ◌∙◌, ℕ, List, Contains, sym, subst}
-use Rattle.hn_graph.proofs.Names.{HasPeer, peer_link, PeerLink, Entry, AreAdjacent, IsRecent, IsReachable, IsLike, KeepsReach}
+use Rattle.hn_graph.proofs.Names.{HasPeer, peer_link, PeerLink, Entry, AreAdjacent, IsLeadingOn, IsReachable, IsLike, KeepsReach}
 use Rattle.hn_graph.specs.Laws.{ReachabilityStays}
 use Rattle.hn_graph.specs.SameLinks.{SaysSamePeers, KeepsLinks, SameLinksReach}
 use Rattle.hn_graph.proofs.Ways.{HasWay, way_to_own, way_further, path_from_way, along_path}
@@ -35,7 +35,7 @@ module _ (own : ℕ) (before after : List Entry) (keeps : KeepsLinks own before 
       let next = keeps.kept x there (path_from_way own before x was) in
       record { was = was; is = record { node = next.0; there = next.1; way = way_to_own own after next.0 next.1 (next.2.id ∙ is_own); like = next.2 } }
 
-  forth_step : (x z : Entry) → HasBoth x → IsRecent x → AreAdjacent x z → Contains before z → HasBoth z
+  forth_step : (x z : Entry) → HasBoth x → IsLeadingOn x → AreAdjacent x z → Contains before z → HasBoth z
   forth_step x z both recent are there =
       let was = way_further own before x z both.was recent are there in
       let next = keeps.kept z there (path_from_way own before z was) in
@@ -52,7 +52,7 @@ module _ (own : ℕ) (before after : List Entry) (keeps : KeepsLinks own before 
       let old = keeps.known y there in
       record { node = old.0; there = old.1; way = way_to_own own before old.0 old.1 (old.2.id ∙ is_own); like = old.2 }
 
-  back_step : (y z : Entry) → HasLikeWay own before y → IsRecent y → AreAdjacent y z → Contains after z → HasLikeWay own before z
+  back_step : (y z : Entry) → HasLikeWay own before y → IsLeadingOn y → AreAdjacent y z → Contains after z → HasLikeWay own before z
   back_step y z was recent are there =
       let old = keeps.known z there in
       let further = way_further own before was.node old.0 was.way (was.like.recent recent) (like_adjacent y z was.node old.0 was.like old.2 are) old.1 in

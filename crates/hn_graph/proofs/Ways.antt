@@ -1,7 +1,7 @@
 -- Paths, one node longer at their end, and what holds along them.
 use Rattle.hn_base.proofs.Names.{◌≡◌, ℕ, ◌+◌, ◌-◌, ◌<◌, ◌≤◌, suc, List, [], ◌∷◌, ◌++◌, length, get_or, take, Some, refl, sym, ap, ⊎_elim, arith, slice_get, Contains, AllAdjacentBelow, cases_lt}
 use Rattle.hn_base.proofs.Names.{length_push, get_or_append_left, get_or_push, take_at, All-push, All-nil, All-head, All-tail, All-same, same_Some, none-some}
-use Rattle.hn_graph.proofs.Names.{ids_of, Entry, AreAdjacent, IsRecent, IsReachable}
+use Rattle.hn_graph.proofs.Names.{ids_of, Entry, AreAdjacent, IsLeadingOn, IsReachable}
 use Rattle.std.proofs.Common.{All}
 
 -- a path to the node z itself, after the nodes in front
@@ -9,7 +9,7 @@ pub record IsWay (own : ℕ) (nodes front : List Entry) (z : Entry) : Type 0 whe
   pub of_nodes : All (λ x. Contains nodes x) (front ++ z ∷ [])
   pub from_own : slice_get (ids_of (front ++ z ∷ [])) 0 ≡ Some own
   pub adjacent : AllAdjacentBelow AreAdjacent (front ++ z ∷ []) (length front + 1)
-  pub recent : All IsRecent front
+  pub recent : All IsLeadingOn front
 
 -- some path leads to the node
 abbrev pub HasWay : ℕ → List Entry → Entry → Type 0
@@ -22,7 +22,7 @@ way_to_own own nodes x there is = (
     of_nodes = All-push (λ y. Contains nodes y) [] x (All-nil (λ y. Contains nodes y)) there;
     from_own = ap Some is;
     adjacent = λ k d lt. absurd (omega arith);
-    recent = All-nil IsRecent;
+    recent = All-nil IsLeadingOn;
   },
 )
 
@@ -46,14 +46,14 @@ adjacent_more front x z were are k d lt =
     (cases_lt (k + 1) (length front + 1))
 
 -- one step further
-pub way_further : (own : ℕ) (nodes : List Entry) (x z : Entry) → HasWay own nodes x → IsRecent x → AreAdjacent x z → Contains nodes z → HasWay own nodes z
+pub way_further : (own : ℕ) (nodes : List Entry) (x z : Entry) → HasWay own nodes x → IsLeadingOn x → AreAdjacent x z → Contains nodes z → HasWay own nodes z
 way_further own nodes x z (front, way) recent are there = (
   front ++ x ∷ [],
   record {
     of_nodes = All-push (λ y. Contains nodes y) (front ++ x ∷ []) z way.of_nodes there;
     from_own = first_stays front x z own way.from_own;
     adjacent = adjacent_more front x z way.adjacent are;
-    recent = All-push IsRecent front x way.recent recent;
+    recent = All-push IsLeadingOn front x way.recent recent;
   },
 )
 
@@ -73,20 +73,20 @@ path_from_way own nodes z (front, way) =
         from_own = way.from_own;
         to_y = rw before_last (last_is front z);
         adjacent = λ k d lt. way.adjacent k d (omega arith);
-        recent = All-same IsRecent _ front kept way.recent;
+        recent = All-same IsLeadingOn _ front kept way.recent;
       },
     )
 
 -- what each step keeps, and the first node has, the last node of a path has
 pub along : (nodes : List Entry) (P : Entry → Type 0)
-    → ((x z : Entry) → P x → IsRecent x → AreAdjacent x z → Contains nodes z → P z)
+    → ((x z : Entry) → P x → IsLeadingOn x → AreAdjacent x z → Contains nodes z → P z)
     → (x : Entry) (rest : List Entry) (y : ℕ) → P x
-    → All (λ z. Contains nodes z) (x ∷ rest) → AllAdjacentBelow AreAdjacent (x ∷ rest) (length (x ∷ rest)) → All IsRecent (take (length rest) (x ∷ rest))
+    → All (λ z. Contains nodes z) (x ∷ rest) → AllAdjacentBelow AreAdjacent (x ∷ rest) (length (x ∷ rest)) → All IsLeadingOn (take (length rest) (x ∷ rest))
     → slice_get (ids_of (x ∷ rest)) (length rest) ≡ Some y → (z : Entry) × P z × (z.id.0 ≡ y)
 along nodes P step x [] y here of_nodes adjacent recent last = (x, here, same_Some x.id.0 y last)
 along nodes P step x (w ∷ rest) y here of_nodes adjacent recent last =
     let are : AreAdjacent x w = adjacent 0 x (omega arith) in
-    let now : IsRecent x = All-head IsRecent x (take (length rest) (w ∷ rest)) recent in
+    let now : IsLeadingOn x = All-head IsLeadingOn x (take (length rest) (w ∷ rest)) recent in
     let others = All-tail (λ z. Contains nodes z) x (w ∷ rest) of_nodes in
     let there : Contains nodes w = All-head (λ z. Contains nodes z) w rest others in
     along nodes P step w rest y (step x w here now are there) others
@@ -94,12 +94,12 @@ along nodes P step x (w ∷ rest) y here of_nodes adjacent recent last =
     let e : suc k + 1 ≡ suc (k + 1) = omega arith in
     let f = adjacent (suc k) d (omega arith) in
     rw e at f)
-    (All-tail IsRecent x (take (length rest) (w ∷ rest)) recent) last
+    (All-tail IsLeadingOn x (take (length rest) (w ∷ rest)) recent) last
 
 -- the same, for a path
 pub along_path : (own : ℕ) (nodes : List Entry) (P : Entry → Type 0)
     → ((x : Entry) → Contains nodes x → x.id.0 ≡ own → P x)
-    → ((x z : Entry) → P x → IsRecent x → AreAdjacent x z → Contains nodes z → P z)
+    → ((x z : Entry) → P x → IsLeadingOn x → AreAdjacent x z → Contains nodes z → P z)
     → (y : ℕ) → IsReachable own nodes y → (z : Entry) × P z × (z.id.0 ≡ y)
 along_path own nodes P start step y ([], is) = absurd (none-some own is.from_own)
 along_path own nodes P start step y (x ∷ rest, is) =

@@ -2,7 +2,7 @@
 use Rattle.hn_base.proofs.Names.{◌≡◌, ◌↔◌, ◌⊎◌, inl, inr, Bool, ℕ, ◌+◌, ◌≤◌, List, [], ◌∷◌, ◌++◌, length, Some, refl, sym, ap, ◌∙◌, subst, ⊎_elim, slice_get, Contains, IsStrictlySortedBy, nat_cmp}
 use Rattle.hn_base.proofs.Names.{slice_get_read, Contains-push, Contains-push_cases, Contains-append_left}
 use Rattle.hn_graph.proofs.Names.{nothing_in, IsOfFirst, none_of_first, first_further, first_last, first_cases, first_of_all, one_place, one_place_of, part_stands, ids_of, HasPeer, peer_link}
-use Rattle.hn_graph.proofs.Names.{PeerLink, Entry, IsPeerAt, IsNext, IsPlaceMarked, IsRecent}
+use Rattle.hn_graph.proofs.Names.{PeerLink, Entry, IsPeerAt, IsNext, IsPlaceMarked, IsLeadingOn}
 
 -- one of the first n links leads to the place
 abbrev pub IsAcross : List Entry → Entry → List PeerLink → ℕ → ℕ → Type 0
@@ -41,7 +41,7 @@ across_same nodes x links found n places link were at marked place = (
 )
 
 -- all links that the node says
-pub next_across : (nodes : List Entry) (x : Entry) (links : List PeerLink) (n : ℕ) (place : ℕ) → length links ≤ n → ((link : PeerLink) → Contains links link ↔ HasPeer x.body link) → IsRecent x
+pub next_across : (nodes : List Entry) (x : Entry) (links : List PeerLink) (n : ℕ) (place : ℕ) → length links ≤ n → ((link : PeerLink) → Contains links link ↔ HasPeer x.body link) → IsLeadingOn x
     → IsAcross nodes x links n place ↔ IsNext nodes x place
 next_across nodes x links n place all are recent = (
   λ across. let leads = across.fact in record {

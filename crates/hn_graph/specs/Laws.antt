@@ -3,7 +3,7 @@ use Rattle.std.specs.Prelude.{◌≡◌, ℕ, ◌<◌, List, Contains, ◌↔◌
 use Rattle.hn_data.specs.declared.view.Entry.{Entry}
 use Rattle.hn_data.specs.View.{PlainView, ids_of, IsNetwork}
 use Rattle.hn_data.specs.Later.{IsLater}
-use Rattle.hn_graph.specs.Path.{IsRecent, IsReachable}
+use Rattle.hn_graph.specs.Path.{IsLeadingOn, IsReachable}
 use Rattle.hn_graph.specs.Later.{IsAgeLimit}
 
 -- The own node is reachable.
@@ -18,7 +18,7 @@ ReachableIsANode = (own : ℕ) (nodes : List Entry) (y : ℕ) → IsReachable ow
 pub record IsLike (node other : Entry) : Type 0 where
   pub id : other.id.0 ≡ node.id.0
   pub body : other.body ≡ node.body
-  pub recent : IsRecent node → IsRecent other
+  pub recent : IsLeadingOn node → IsLeadingOn other
 
 -- each reachable node is still there, as recent as it was, and each node was there and was as recent as it is
 pub record KeepsReach (own : ℕ) (before after : List Entry) : Type 0 where

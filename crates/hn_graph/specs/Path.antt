@@ -12,8 +12,8 @@ pub record AreAdjacent (x y : Entry) : Type 0 where
   pub linked : IsLinked x.body x.id.0 here y.body y.id.0 there
 
 -- the node's data was published less than 2^32 - 2^15 ms ago
-abbrev pub IsRecent : Entry → Type 0
-IsRecent x = x.age < 2 ^ 32 - 2 ^ 15
+abbrev pub IsLeadingOn : Entry → Type 0
+IsLeadingOn x = x.age < 2 ^ 32 - 2 ^ 15
 
 -- A path to y is a list of nodes, from the own node to y. Each node and the next are adjacent. The data of each node
 -- but the last are recent.
@@ -22,7 +22,7 @@ pub record IsPath (own : ℕ) (nodes : List Entry) (y : ℕ) (path : List Entry)
   pub from_own : slice_get (ids_of path) 0 ≡ Some own
   pub to_y : slice_get (ids_of path) (length path - 1) ≡ Some y
   pub adjacent : AllAdjacentBelow AreAdjacent path (length path)
-  pub recent : All IsRecent (take (length path - 1) path)
+  pub recent : All IsLeadingOn (take (length path - 1) path)
 
 -- some path leads to y
 abbrev pub IsReachable : ℕ → List Entry → ℕ → Type 0

@@ -3,13 +3,13 @@ use Rattle.std.specs.Prelude.{◌≡◌, ℕ, ◌+◌, ◌<◌, ◌≤◌, ◌�
 use Rattle.std.specs.List.{Contains, count_by}
 use Rattle.hn_base.specs.declared.ids.NodeId.{NodeId}
 use Rattle.hn_data.specs.declared.view.Entry.{Entry}
-use Rattle.hn_graph.specs.Path.{AreAdjacent, IsRecent}
+use Rattle.hn_graph.specs.Path.{AreAdjacent, IsLeadingOn}
 
 -- a path may go from x to the node at this place
 pub record IsNext (nodes : List Entry) (x : Entry) (place : ℕ) : Type 0 where
   pub y : Entry
   pub at : slice_get nodes place ≡ Some y
-  pub recent : IsRecent x
+  pub recent : IsLeadingOn x
   pub adjacent : AreAdjacent x y
 
 -- the numbers before this place are below a number

@@ -102,19 +102,19 @@ noting_at process sole = record {
 -- ---- processes that leave the text
 
 -- one that leaves the text, and is refused by this code, if there is one; then nothing changes
-pub record IsStill (unless : Stage → Option ℕ) (process : Process) : Type 0 where
+pub record LeavesTheText (unless : Stage → Option ℕ) (process : Process) : Type 0 where
   pub accepted : (p a : Stage) → process None p a → unless p ≡ None
   pub refused : (code : ℕ) (p a : Stage) → process (Some (Refused code)) p a → (unless p ≡ Some code) × (a ≡ p)
   pub text : (c : Option Stop) (p a : Stage) → process c p a → a.text ≡ p.text
 
-pub grows_still : (unless : Stage → Option ℕ) (P : Process) → IsStill unless P → OnlyGrows P
+pub grows_still : (unless : Stage → Option ℕ) (P : Process) → LeavesTheText unless P → OnlyGrows P
 grows_still unless P still c p a h = grows_none p a (still.text c p a h)
 
 unlike : (code : ℕ) (o : Option ℕ) → o ≡ None → o ≡ Some code → ⊥
 unlike code o none some = none-some code (sym none ∙ some)
 
 -- two such are alike, if they are one where both are done
-pub alike_still : (unless : Stage → Option ℕ) (P Q : Process) → IsStill unless P → IsStill unless Q
+pub alike_still : (unless : Stage → Option ℕ) (P Q : Process) → LeavesTheText unless P → LeavesTheText unless Q
     → ((p a b : Stage) → P None p a → Q None p b → a ≡ b) → AreAlike P Q
 alike_still unless P Q left right done c d p a b told = cases c d
   where
@@ -137,7 +137,7 @@ alike_still unless P Q left right done c d p a b told = cases c d
     cases (Some (Refused e)) (Some WireFailed) h k = SecondIsShort tt (grows_none b a (texts (Some (Refused e)) (Some WireFailed) h k))
     cases (Some (Refused e)) (Some (Cut fault)) h k = SecondIsShort tt (grows_none b a (texts (Some (Refused e)) (Some (Cut fault)) h k))
 
-still_nothing : IsStill (λ p. None) Nothing
+still_nothing : LeavesTheText (λ p. None) Nothing
 still_nothing = record {
   accepted = λ p a h. refl;
   refused = λ code p a h. absurd h;
@@ -157,7 +157,7 @@ sole_nothing = record {
   grows = grows_still (λ p. None) Nothing still_nothing;
 }
 
-still_unless : (unless : Option ℕ) → IsStill (λ p. unless) (Unless unless)
+still_unless : (unless : Option ℕ) → LeavesTheText (λ p. unless) (Unless unless)
 still_unless unless = record {
   accepted = λ p a h. h.0;
   refused = λ code p a h. h;

@@ -6,7 +6,7 @@ use Rattle.hn_lab.proofs.Names.{is_lost, IsKnownRoute, AdvertIsUnique, Unless, T
 use Rattle.std.specs.Prelude.{◌+◌, min}
 use Rattle.hn_world.specs.declared.event.WEvent.TheVariants as event
 use Rattle.hn_lab.specs.Delivery.{IsConveyed}
-use Rattle.hn_lab.proofs.LawAlike.{Grows, grows_none, grows_from, Agree, AreOne, FirstIsShort, SecondIsShort, IsCutShort, apart, IsSole, IsSoleNoting, sole_notes, sole_at, noting_at, IsStill}
+use Rattle.hn_lab.proofs.LawAlike.{Grows, grows_none, grows_from, Agree, AreOne, FirstIsShort, SecondIsShort, IsCutShort, apart, IsSole, IsSoleNoting, sole_notes, sole_at, noting_at, LeavesTheText}
 use Rattle.hn_lab.proofs.LawAlike.{alike_still, grows_still, sole_unless, sole_then, sole_each, then_noting}
 use Rattle.hn_lab.proofs.LawCarry.{one_carriage, still_told}
 use Rattle.hn_lab.proofs.LawSendings.{sole_turns}
@@ -18,7 +18,7 @@ pub same_stage : (a b : Stage) → a.world ≡ b.world → a.loss ≡ b.loss →
 same_stage a b world loss words route senders text =
     λ i. record { world = world i; loss = loss i; words = words i; route = route i; senders = senders i; text = text i }
 
-still_event : (event : WEvent) (notes : List Note) → IsStill (λ p. refusal p.world event) (EventNotes event notes)
+still_event : (event : WEvent) (notes : List Note) → LeavesTheText (λ p. refusal p.world event) (EventNotes event notes)
 still_event event notes = record { accepted = λ p a h. h.step.step.accepted; refused = λ code p a h. h; text = text }
   where
     text : (c : Option Stop) (p a : Stage) → EventNotes event notes c p a → a.text ≡ p.text

@@ -44,4 +44,4 @@ mod SomeChoices
 mod SomeLines
 mod Transcripts
 mod RunsInTurns
-mod RestfulLines
+mod CalmLines

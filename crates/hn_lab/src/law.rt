@@ -2,7 +2,7 @@
 
 ghost use Rattle.hn_lab.specs.Breaking.{WireFailsAtACopy};
 ghost use Rattle.hn_lab.specs.Laws.{AtMostOnePlay, AtMostOneCutPlay, CutTextsAreFronts, BrokenTextsAreFronts, MailDelivers, PiecesAppend, ResultsAreUnique};
-ghost use Rattle.hn_lab.specs.Resting.{LastingRunKeepsCalm, RestfulLinesKeepCalm, RunBringsCalm, RunKeepsCalm};
+ghost use Rattle.hn_lab.specs.Resting.{LastingRunKeepsCalm, CalmLinesKeepCalm, RunBringsCalm, RunKeepsCalm};
 
 use hn_addr::choice_is_unique;
 use hn_advert::advert_is_unique;
@@ -85,7 +85,7 @@ pub fn run_keeps_calm()
     ensures brings { RunBringsCalm }
     ensures way { RunKeepsCalm }
     ensures lasting { LastingRunKeepsCalm }
-    ensures lines { RestfulLinesKeepCalm }
+    ensures lines { CalmLinesKeepCalm }
 {
     at_most_one_world();
     names_differ();

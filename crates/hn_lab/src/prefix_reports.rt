@@ -5,7 +5,7 @@ ghost use Rattle.hn_lab.specs.PrefixReports.{use_line, used_lines, AreUsedLines,
 
 use crate::lines::Lines;
 use hn_assign::Assigned;
-use hn_base::{yes_no, EpId, Letter, Name, NoMemory, NodeId};
+use hn_base::{EpId, Letter, Name, NoMemory, NodeId, yes_no};
 use hn_deleg::{Delegated, whole_seconds};
 use hn_script::letter_text;
 use hn_world::Member;

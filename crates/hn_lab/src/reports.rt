@@ -8,7 +8,7 @@ ghost use Rattle.hn_world.specs.Asked.{unless_both_run};
 ghost use Rattle.hn_lab.specs.Report.{Compares, mail_report};
 ghost use Rattle.hn_lab.specs.Reports.{show_line, hash_line, agreement_text, compare_line, refused_line};
 
-use hn_base::{yes_no, Hex, Name, NoMemory};
+use hn_base::{Hex, Name, NoMemory, yes_no};
 use hn_hash::Agreement;
 use hn_world::{Member, World};
 use std::alloc::{AllocError, Global};

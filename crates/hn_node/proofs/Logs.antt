@@ -95,7 +95,7 @@ once one (l ∷ log) (m ∷ other) first a b stream events x y h k =
     let later : Begins (logged_words other) (λ i. stream (length l.words + i)) =
     subst (λ (n : ℕ). Begins (logged_words other) (λ i. stream (n + i))) (ap length (sym words)) (begins_back m.words (logged_words other) stream y) in
     let rest = once one log other h.0 a b (λ i. stream (length l.words + i)) tails (begins_back l.words (logged_words log) stream x) later h.2
-        (subst (λ (s : State). LogLeads other s b) (sym same.0) k.2) in
+    (subst (λ (s : State). LogLeads other s b) (sym same.0) k.2) in
     (rest.0, λ i. same_logged l m moment event words sends i ∷ rest.1 i)
 
 pub leads_once : OneResult → LogLeadsOnce

@@ -8,7 +8,7 @@ use Rattle.hn_assign.specs.Advertised.{key_of}
 use Rattle.hn_assign.specs.Facts.{HasOwnPriority}
 use Rattle.hn_assign.specs.Fixed.{IsWishAtRest}
 use Rattle.hn_assign.specs.Pair.{IsWished, wish_pair}
-use Rattle.hn_assign.specs.Rest.{IsIdle, IsAtRest}
+use Rattle.hn_assign.specs.Rest.{IsAtRestWithout, IsAtRest}
 use Rattle.hn_assign.specs.declared.assigned.Wish.{Wish}
 use Rattle.hn_assign.specs.declared.pair.Pair.{Pair}
 use Rattle.hn_own.specs.Posts.{posts_of}
@@ -103,8 +103,8 @@ module _ (laws : PlainLaws) (s : State) (router : IsRouter s) (usable : List Del
 
     -- ---- and without one
 
-    abbrev IsPlainlyIdle : Pair → Type 0
-    IsPlainlyIdle pair = ((a : Advertised) → ¬ plain.IsRival s pair.endpoint pair.delegated a) × (plain.DoesNotWant s pair.delegated ⊎ plain.SeesNoFree s pair.endpoint pair.delegated)
+    abbrev IsPlainlyWithout : Pair → Type 0
+    IsPlainlyWithout pair = ((a : Advertised) → ¬ plain.IsRival s pair.endpoint pair.delegated a) × (plain.DoesNotWant s pair.delegated ⊎ plain.SeesNoFree s pair.endpoint pair.delegated)
 
     unwanted_of : IsUnwanted usable asked.place → plain.DoesNotWant s wish.delegated
     unwanted_of un =
@@ -118,7 +118,7 @@ module _ (laws : PlainLaws) (s : State) (router : IsRouter s) (usable : List Del
           unwanted = un;
         }))
 
-    idle_of : IsIdle advertised s.id.0 wish → IsPlainlyIdle (wish_pair wish)
+    idle_of : IsAtRestWithout advertised s.id.0 wish → IsPlainlyWithout (wish_pair wish)
     idle_of idle = (
       λ a rival. idle.no_best a (to_rival laws s router advertised are wish.endpoint wish.common asked.asked.common wish.delegated a rival),
       elim idle.nothing_to_do [
@@ -131,7 +131,7 @@ module _ (laws : PlainLaws) (s : State) (router : IsRouter s) (usable : List Del
       ],
     )
 
-    idles_of : IsPlainlyIdle (wish_pair wish) → IsIdle advertised s.id.0 wish
+    idles_of : IsPlainlyWithout (wish_pair wish) → IsAtRestWithout advertised s.id.0 wish
     idles_of idle = record {
       no_best = λ a h. idle.0 a (from_rival laws s router advertised are wish.endpoint wish.common asked.asked.common wish.delegated a h);
       nothing_to_do = elim idle.1 [

@@ -5,8 +5,8 @@ use Rattle.hn_router.proofs.Names.{Delegated, Done, Running, State, nothing, IsN
 use Rattle.hn_router.proofs.Names.{DidNothing, IsDueAfter, IsKeptRouter}
 use Rattle.hn_assign.specs.declared.assigned.Wish.{Wish}
 use Rattle.hn_rules.specs.Assigning.{AreAsked}
-use Rattle.hn_rules.specs.Laws.{StillIsIdle, IdleIsStill, IdleUntilDue, NextDueIsOne}
-use Rattle.hn_rules.specs.Still.{IsStill}
+use Rattle.hn_rules.specs.Laws.{UndueIsIdle, IdleIsUndue, IdleUntilDue, NextDueIsOne}
+use Rattle.hn_rules.specs.Undue.{IsRouterUndue}
 use Rattle.hn_router.specs.Act.{Happened}
 
 -- ---- no fact of a router looks at it
@@ -54,7 +54,7 @@ asked_due moment due s usable wishes are = record {
   );
 }
 
-still_due : (now moment due : ℕ) (s : State) → IsStill now s → IsStill now (record s { moment = moment; due = due })
+still_due : (now moment due : ℕ) (s : State) → IsRouterUndue now s → IsRouterUndue now (record s { moment = moment; due = due })
 still_due now moment due s is = record {
   heard = is.heard;
   lasting = is.lasting;
@@ -80,15 +80,15 @@ tick_ran r a (inr (accepted, holds)) = holds
 -- the laws of the rules on which it rests
 pub record KeptLaws : Type 0 where
   pub later : RouterStaysLater
-  pub idle_is_still : IdleIsStill
-  pub still_is_idle : StillIsIdle
+  pub idle_is_undue : IdleIsUndue
+  pub undue_is_idle : UndueIsIdle
 
 -- at the moment of the tick the router is one for which a tick does nothing, whatever moment it keeps
 idle_there : KeptLaws → (now due : ℕ) (s : State) → IsRouter s → s.moment ≤ now → IsIdleTick now s → IsIdleTick now (record s { moment = now; due = due })
 idle_there laws now due s router rises idle =
-    let still = still_due now now due s (laws.idle_is_still s now router rises idle) in
+    let still = still_due now now due s (laws.idle_is_undue s now router rises idle) in
     let there : IsRouter (record s { moment = now; due = due }) = router_due due (at_moment now s) (laws.later now s router rises) in
-    laws.still_is_idle (record s { moment = now; due = due }) now there (omega arith) still
+    laws.undue_is_idle (record s { moment = now; due = due }) now there (omega arith) still
 
 kept_after : KeptLaws → (now : ℕ) (event : PlainEvent) (s : State) (after : Running) (due : ℕ) → IsRouter s → s.moment ≤ now → IsEvent event (begun_at now s) after
     → IsDueAfter event (begun_at now s) after due → IsRouter (record after.state { due = due }) → IsKeptRouter (record after.state { due = due })

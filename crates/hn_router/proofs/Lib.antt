@@ -18,6 +18,6 @@ mod Changing
 mod Edits
 mod Facts
 mod Refused
-mod Restful
+mod CalmTicks
 mod SomeElections
 mod SomeAdverts

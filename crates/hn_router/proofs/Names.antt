@@ -49,7 +49,7 @@ pub use Rattle.hn_rules.specs.Refresh.{IsRefresh, network_state_hash}
 pub use Rattle.hn_rules.specs.Router.{IsRouter, IsWell}
 pub use Rattle.hn_rules.specs.Rules.{IsSole, Rule, begun_at, noted, words_taken}
 pub use Rattle.hn_rules.specs.Seen.{IsElectedAt, seen_by}
-pub use Rattle.hn_rules.specs.Still.{at_moment}
+pub use Rattle.hn_rules.specs.Undue.{at_moment}
 pub use Rattle.hn_rules.specs.Tick.{IsExpiry, IsPortsTick, forgetting}
 pub use Rattle.hn_rules.specs.Ticks.{IsTick}
 pub use Rattle.hn_rules.specs.declared.done.Done.{Done}

@@ -23,8 +23,8 @@ use Rattle.hn_router.specs.Sends.{IsShortSend, IsSendOfBytes}
 use Rattle.hn_rules.specs.Router.{IsRouter}
 use Rattle.hn_rules.specs.Seen.{IsElectedAt}
 use Rattle.hn_rules.specs.Assigning.{IsRunAssigned}
-use Rattle.hn_rules.specs.Rested.{IsRested}
-use Rattle.hn_rules.specs.Still.{at_moment, IsUneventful}
+use Rattle.hn_rules.specs.KeptAtRest.{IsKeptAtRest}
+use Rattle.hn_rules.specs.Undue.{at_moment, IsKeptUndue}
 use Rattle.hn_assign.specs.Fixed.{AreAssignmentsUnchanged}
 use Rattle.hn_assign.specs.declared.held.Ran.{Ran}
 
@@ -125,11 +125,11 @@ pub record RefusedInputStays : Type 0 where
 
 -- Where nothing that a router keeps has come to its moment, and the assignment subroutine would change nothing, a tick
 -- changes neither what others see of the router nor its assignments, marks of application aside.
-abbrev pub RestfulTickStays : Type 0
-RestfulTickStays =
-    (now : ℕ) (s next : State) (done : Done) → IsRouter s → s.moment ≤ now → IsUneventful now s
+abbrev pub CalmTickStays : Type 0
+CalmTickStays =
+    (now : ℕ) (s next : State) (done : Done) → IsRouter s → s.moment ≤ now → IsKeptUndue now s
     → ((ran : Ran) → IsRunAssigned (at_moment now s) ran → AreAssignmentsUnchanged s.held.assigned ran.held.assigned)
-    → Happened now Tick s next done → IsRested s next
+    → Happened now Tick s next done → IsKeptAtRest s next
 
 -- ---- what was published
 

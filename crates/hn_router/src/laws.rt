@@ -2,7 +2,7 @@
 
 ghost use Rattle.hn_router.specs.Laws.{OneResult, EventHasAResult, NewExists, NewIsUnique, NewIsRouter, RouterStays, MomentStays};
 ghost use Rattle.hn_router.specs.Laws.{MomentIsNow, EndpointsFollow, RouterHasOneAdvert, ElectedExists, AdvertExists, SendsAreShort, SendsAreBytes, LimitStays, RefusedInputStays};
-ghost use Rattle.hn_router.specs.Laws.{RestfulTickStays, GenuineStays};
+ghost use Rattle.hn_router.specs.Laws.{CalmTickStays, GenuineStays};
 
 use hn_data::items_are_unique;
 use hn_deleg::{inside_keeps_the_order, lifetimes_fit, usable_exists, usable_is_unique};
@@ -10,10 +10,10 @@ use hn_graph::{own_is_reachable, reachable_is_a_node};
 use hn_link::{common_link_exists, common_link_is_unique, elected_is_unique};
 use hn_own::{none_are_well, own_data_exists, own_data_is_unique};
 use hn_rules::{
-    changes_keep_bytes, changes_keep_genuine, changes_keep_hashed, changes_keep_short,
-    changes_keep_the_limit, next_due_is_one, refresh_makes_a_router, restful_tick,
-    router_stays_later, rules_have_a_result, rules_have_one_result, rules_keep_a_router,
-    rules_keep_the_endpoints, rules_keep_the_rest, rules_make_changes, view_is_a_network,
+    calm_tick, changes_keep_bytes, changes_keep_genuine, changes_keep_hashed, changes_keep_short,
+    changes_keep_the_limit, next_due_is_one, refresh_makes_a_router, router_stays_later,
+    rules_have_a_result, rules_have_one_result, rules_keep_a_router, rules_keep_the_endpoints,
+    rules_keep_the_rest, rules_make_changes, view_is_a_network,
 };
 use hn_store::loss_keeps_table;
 use hn_tlv::{first_fault_is_unique, list_is_unique, list_or_first_fault};
@@ -164,10 +164,10 @@ pub fn refused_input_stays()
 
 /// A tick that nothing disturbs, at which the assignment subroutine would change nothing, changes neither what others see of
 /// the router nor its assignments, marks of application aside.
-pub fn restful_ticks_stay()
-    ensures { RestfulTickStays }
+pub fn calm_ticks_stay()
+    ensures { CalmTickStays }
 {
-    restful_tick();
+    calm_tick();
 }
 
 /// A router's own and held node data stay published, and so does what it sends, or texts that were published collide.

@@ -18,7 +18,7 @@ ghost use Rattle.hn_rules.specs.Due.{IsNextDue};
 ghost use Rattle.hn_rules.specs.Router.{IsRouter};
 ghost use Rattle.hn_rules.specs.Idle.{IsIdleTick};
 ghost use Rattle.hn_rules.specs.Router.{IsRouter};
-ghost use Rattle.hn_rules.specs.Still.{at_moment};
+ghost use Rattle.hn_rules.specs.Undue.{at_moment};
 ghost use Rattle.hn_router.specs.Act.{plain_event, Tick, Happened, HasResults};
 ghost use Rattle.hn_router.specs.New.{no_caps, IsNew};
 ghost use Rattle.hn_router.specs.Plan.{changed};
@@ -42,8 +42,8 @@ use hn_link::{common, elected};
 use hn_own::{Addresses, HeldPairs, OwnData, OwnItems, OwnPrefixes, Ports};
 use hn_prefix::Prefix;
 use hn_rules::{
-    Done, Origin, Passing, Present, Running, State, idle_is_still, idle_until_due,
-    router_stays_later, rules_have_one_result, still_is_idle, view_is_a_network,
+    Done, Origin, Passing, Present, Running, State, idle_is_undue, idle_until_due,
+    router_stays_later, rules_have_one_result, undue_is_idle, view_is_a_network,
 };
 use hn_store::{LIMIT, Table};
 use std::alloc::Global;
@@ -254,8 +254,8 @@ impl Router {
         router_stays();
         sends_are_short();
         router_stays_later();
-        idle_is_still();
-        still_is_idle();
+        idle_is_undue();
+        undue_is_idle();
         event_in_range(event);
         let (state, done) = run_to(alloc, &self.state, event, now, draw)?;
         Ok(Plan { state, done })
@@ -284,8 +284,8 @@ impl Router {
     {
         router_stays_later();
         idle_until_due();
-        idle_is_still();
-        still_is_idle();
+        idle_is_undue();
+        undue_is_idle();
         self.state.moment = Present::new(now);
     }
 

@@ -4,7 +4,7 @@ use Rattle.hn_base.proofs.Names.{◌≡◌, ◌≢◌, ◌∙◌, ◌⊎◌, ◌
 use Rattle.hn_base.proofs.Names.{eq-eqb, eqb-true, lt-ltb, nat_cmp_total, Contains-append_left, Contains-append_right, same_Some, PlainPrefix}
 use Rattle.hn_rules.proofs.Names.{Contains, Contains-tail, Contains-map, sorted_parts, found_passes, in_filter, in_filter_map, from_filter_map, passing_found, same_node, one_of_ascending, NodeId}
 use Rattle.hn_rules.proofs.Names.{HasPeer, Delegation, PeerLink, Entry, IsPreferred, remaining, IsAnnouncedPrefix, IsReachable, seconds_left, OwnPrefix, HeldIsOfAnEntry, held, HeldNode, Stored, State}
-use Rattle.hn_rules.proofs.Names.{held_entry, own_entry, held_entries, nodes_of, entry_of, view_of, IsFresh, IsWell, IsRouter, seen_by}
+use Rattle.hn_rules.proofs.Names.{held_entry, own_entry, held_entries, nodes_of, entry_of, view_of, IsJustRefreshed, IsWell, IsRouter, seen_by}
 use Rattle.hn_deleg.specs.Live.{IsAnnounced}
 use Rattle.hn_graph.specs.Following.{SaysAsMuch, SayAsMuch, ReachabilityFollows}
 use Rattle.hn_rules.proofs.Entries.{entry_own, entry_other, entry_held}
@@ -58,8 +58,8 @@ HoldsAsMuch a b = (node : HeldNode) → Contains a.table.entries node → (other
 pub record AreTwins (a b : State) : Type 0 where
   pub router : IsRouter a
   pub other_router : IsRouter b
-  pub fresh : IsFresh a
-  pub other_fresh : IsFresh b
+  pub fresh : IsJustRefreshed a
+  pub other_refreshed : IsJustRefreshed b
   pub id : b.id ≡ a.id
   pub moment : b.moment ≡ a.moment
   pub links : b.own.items.links ≡ a.own.items.links
@@ -89,7 +89,7 @@ module _ (laws : AnnouncingLaws) (a b : State) (twins : AreTwins a b) where
   say : SayAsMuch (nodes_of a) (nodes_of b)
   say x there = elim (own_or_held a a.moment a.moment x there) [
     | inl own ↦
-        let young = twins.other_fresh.young in
+        let young = twins.other_refreshed.young in
         let likes : SaysAsMuch (own_entry a) (own_entry b) = record { id = ap (λ (id : NodeId). id.0) twins.id; peers = peers_too; recent = λ _. omega (arith, young) } in
         (own_entry b, own_there b b.moment, subst (λ (n : Entry). SaysAsMuch n (own_entry b)) (sym own) likes)
     | inr (node, holds, is, _) ↦
@@ -101,7 +101,7 @@ module _ (laws : AnnouncingLaws) (a b : State) (twins : AreTwins a b) where
   reached_too : (id : NodeId) → Contains a.reach id → Contains b.reach id
   reached_too id there =
       let reachable = laws.follows a.id.0 (nodes_of a) (nodes_of b) say id.0 ((twins.fresh.reached.exactly id).0 there) in
-      (twins.other_fresh.reached.exactly id).1 (subst (λ (own : NodeId). IsReachable own.0 (nodes_of b) id.0) (sym twins.id) reachable)
+      (twins.other_refreshed.reached.exactly id).1 (subst (λ (own : NodeId). IsReachable own.0 (nodes_of b) id.0) (sym twins.id) reachable)
 
   -- what the one sees the other sees; or it is the own node of each
   record IsSeenToo (n : Entry) : Type 0 where

@@ -42,7 +42,7 @@ mod SeenWhileTimePasses
 mod NothingDueLasts
 mod Silences
 mod NoPeerExpired
-mod SilentPorts
+mod PortsOfNothing
 mod TickDoesNothing
 mod AtPorts
 mod NothingKeptIsDue

@@ -5,7 +5,7 @@ use Rattle.hn_rules.proofs.Names.{Contains, ◌≢◌, Contains-head, Contains-t
 use Rattle.hn_rules.proofs.Names.{is_port, port_at, put_port, endpoints_of, Outgoing, Running, IsPublishing, IsPortReset, IsHashing, IsRefresh, network_state_hash, AtPort, begun_at, with_port}
 use Rattle.hn_rules.proofs.Names.{IsPortSending, IsPortTick, IsPortsTick}
 use Rattle.hn_dncp.specs.Tick.{has_keep_alive}
-use Rattle.hn_rules.specs.Updates.{HasMoved, RestfulTickMovesPorts}
+use Rattle.hn_rules.specs.Updates.{HasMoved, CalmTickMovesPorts}
 use Rattle.hn_rules.proofs.NothingKeptIsDue.{CalmLaws, nothing_lost}
 use Rattle.hn_rules.proofs.Leads.{Keeps, keeps_each, keeps_option}
 
@@ -184,7 +184,7 @@ module _ (now : ℕ) (start : List Port) where
     ports_move r a holds =
         keeps_each AreMoved (λ at. AtPort at IsPortTick) (λ at. keeps_option AreMoved at IsPortTick (λ port x y found. tick_moves at port x y found)) (endpoints_of r.state.ports) r a holds
 
-pub tick_moves_ports : PackingIsNotEmpty → CalmLaws → RestfulTickMovesPorts
+pub tick_moves_ports : PackingIsNotEmpty → CalmLaws → CalmTickMovesPorts
 tick_moves_ports not_empty laws now s after router begun quiet (lost, losing, (forgot, forgets, (settled, (assigned, assigns, again), ticks))) =
     let start : AreMoved now s.ports (begun_at now s) = record { moment = refl; each = λ q there. record { was = q; there = there; id = refl; peers = refl; sent = inl refl } } in
     let none : lost ≡ begun_at now s = nothing_lost laws s now router begun quiet lost losing in

@@ -40,10 +40,10 @@ pub use Rattle.hn_deleg.specs.Live.{IsAnnouncedPrefix, remaining}
 pub use Rattle.hn_deleg.specs.Used.{AreUsable, IsUnwanted, prefixes_of}
 pub use Rattle.hn_deleg.specs.declared.delegated.Delegated.{Delegated}
 pub use Rattle.hn_dncp.specs.Ask.{asked, may_ask}
-pub use Rattle.hn_dncp.specs.Due.{IsIdleAt, IsPortStill}
+pub use Rattle.hn_dncp.specs.Due.{IsIdleAt, IsPortUndue}
 pub use Rattle.hn_dncp.specs.Greet.{greeting, peers_heard}
 pub use Rattle.hn_dncp.specs.Hash.{asks_for_state, contacted, hashed}
-pub use Rattle.hn_dncp.specs.Laws.{PackingExists, PackingIsNotEmpty, PackingIsRead, StillPortIsIdle}
+pub use Rattle.hn_dncp.specs.Laws.{PackingExists, PackingIsNotEmpty, PackingIsRead, UnduePortIsIdle}
 pub use Rattle.hn_dncp.specs.Packing.{AreRead, IsPacking, sender_tlv}
 pub use Rattle.hn_dncp.specs.Peers.{has_peer, is_peer}
 pub use Rattle.hn_dncp.specs.Port.{attached_port}
@@ -89,7 +89,7 @@ pub use Rattle.hn_rules.specs.Grows.{BeginsWith, GrowsFrom}
 pub use Rattle.hn_rules.specs.Idle.{IsLeft}
 pub use Rattle.hn_rules.specs.KnownReach.{HaveSamePeers, KnowsReach, LeadsAs}
 pub use Rattle.hn_rules.specs.Laws.{AssigningKeeps, ChangesKeepHashed, ChangesKeepWell, ChangesOnlyAdd, KeepsEndpoints, KeepsRouter, KeepsWell, NextDueStays, RefreshMakesRouter, RouterStaysLater}
-pub use Rattle.hn_rules.specs.Laws.{StillStays, ViewIsNetwork}
+pub use Rattle.hn_rules.specs.Laws.{UndueStays, ViewIsNetwork}
 pub use Rattle.hn_rules.specs.NetworkState.{compared, network_state}
 pub use Rattle.hn_rules.specs.NodeEndpoint.{greeting_port, met, named, node_endpoint}
 pub use Rattle.hn_rules.specs.NodeState.{IsNodeState, IsTaken, TakesState, took_noted}
@@ -98,10 +98,10 @@ pub use Rattle.hn_rules.specs.Passing.{IsStatusUpdate}
 pub use Rattle.hn_rules.specs.Posts.{HasCommonLink, endpoints_at}
 pub use Rattle.hn_rules.specs.Refresh.{IsHashing, IsPortReset, IsPublished, IsPublishing, IsReaching, IsRefresh, IsReset, Publishes, network_state_hash, next_number, own_items}
 pub use Rattle.hn_rules.specs.Requests.{IsNetworkRequest, held_state, is_reached, own_state, request_node, sent_age, sent_data, state_item, with_some_answer, with_state}
-pub use Rattle.hn_rules.specs.Router.{IfThere, IsFresh, IsHashed, IsRefreshed, IsRouter, IsUntouched, IsWell}
+pub use Rattle.hn_rules.specs.Router.{IfThere, IsJustRefreshed, IsHashed, IsRefreshed, IsRouter, IsUntouched, IsWell}
 pub use Rattle.hn_rules.specs.Rules.{AtPort, IsSole, IsTotal, Ran, Rule, begun_at, noted, with_port, with_words, words_taken}
 pub use Rattle.hn_rules.specs.Seen.{seen_by}
-pub use Rattle.hn_rules.specs.Still.{AreHeard, IsUneventful, at_moment}
+pub use Rattle.hn_rules.specs.Undue.{AreHeard, IsKeptUndue, at_moment}
 pub use Rattle.hn_rules.specs.Tick.{HasInterval, IsExpired, IsExpiry, IsPortExpiry, IsPortMoving, IsPortSending, IsPortTick, IsPortsTick, IsStateSending, Without, forgetting}
 pub use Rattle.hn_rules.specs.Ticks.{IsLosing, IsSettling, IsTick}
 pub use Rattle.hn_rules.specs.declared.answers.Answer.{Answer}
@@ -124,7 +124,7 @@ pub use Rattle.hn_store.specs.declared.stored.HeldNode.{HeldNode}
 pub use Rattle.hn_store.specs.declared.stored.Stored.{Stored}
 pub use Rattle.hn_timers.specs.Due.{IsExpiryMoment}
 pub use Rattle.hn_timers.specs.Interval.{Interval, has_to_send, interval_from}
-pub use Rattle.hn_timers.specs.KeepAlive.{is_silent}
+pub use Rattle.hn_timers.specs.KeepAlive.{is_keep_alive_due}
 pub use Rattle.hn_tlv.specs.Grammar.{IsTlv, IsTlvAt, IsTlvList, PlainTlv, spelling}
 pub use Rattle.hn_tlv.specs.Laws.{ListIsOfBytes, ListIsUnique, SpellingIsPrefixFree}
 pub use Rattle.hn_tlv.specs.View.{plain}

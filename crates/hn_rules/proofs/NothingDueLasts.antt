@@ -1,27 +1,27 @@
 -- A router for which nothing is due stays so until something is.
 use Rattle.hn_base.proofs.Names.{◌≡◌, ◌∙◌, ◌↔◌, ℕ, ◌+◌, ◌-◌, ◌*◌, ◌^◌, ◌<◌, ◌≤◌, Bool, true, false, List, [], map, Some, None, Contains, nat_lt, inl, inr, refl, sym, ap, arith, All, ◌==◌, list_any}
 use Rattle.hn_base.proofs.Names.{option_map, nat_cmp, and_parts, cases_lt, eq-eqb, eqb-true, ltb-true, nat_cmp_total, All-contains}
-use Rattle.hn_rules.proofs.Names.{nat_le, sorted_parts, all_of, found_passes, in_filter_map, passing_found, one_of_ascending, part_at, part_stands, PlainView, IsPortStill, Neighbour, Port}
+use Rattle.hn_rules.proofs.Names.{nat_le, sorted_parts, all_of, found_passes, in_filter_map, passing_found, one_of_ascending, part_at, part_stands, PlainView, IsPortUndue, Neighbour, Port}
 use Rattle.hn_rules.proofs.Names.{IsForgetting, HeldIsOfAnEntry, is_forgotten, held, HeldNode, IsLike, ReachabilityStays, IsLater, IsLifetimeEnd, Delegated, Wish, IsOwnEnd, has_ended_one, State}
-use Rattle.hn_rules.proofs.Names.{IsWishAt, AreAsked, IsRunAssigned, IsDueAt, StillStays, held_entry, entry_of, view_of, IsReach, IsWell, seen_by, at_moment, AreHeard, IsExpired}
-use Rattle.hn_dncp.specs.Laws.{StillPortStays}
+use Rattle.hn_rules.proofs.Names.{IsWishAt, AreAsked, IsRunAssigned, IsDueAt, UndueStays, held_entry, entry_of, view_of, IsReach, IsWell, seen_by, at_moment, AreHeard, IsExpired}
+use Rattle.hn_dncp.specs.Laws.{UnduePortStays}
 use Rattle.hn_timers.specs.KeepAlive.{expires_at}
 use Rattle.hn_timers.specs.Laws.{ExpiryIsAMoment}
 use Rattle.hn_store.specs.Laws.{ForgettingIsAMoment}
 use Rattle.hn_deleg.specs.Later.{aged_delegated}
 use Rattle.hn_deleg.specs.Laws.{UsableOfLater, UnwantedOfLater}
 use Rattle.hn_link.specs.Laws.{CommonLinkOfLater}
-use Rattle.hn_assign.specs.Laws.{StillRunStays}
+use Rattle.hn_assign.specs.Laws.{IdleRunStays}
 use Rattle.hn_own.specs.Laws.{EndingIsAMoment}
-use Rattle.hn_rules.specs.Laws.{UneventfulReaches}
+use Rattle.hn_rules.specs.Laws.{KeptUndueReaches}
 use Rattle.hn_rules.proofs.Entries.{entry_held}
 use Rattle.hn_rules.proofs.SeenWhileTimePasses.{view_later}
 use Rattle.hn_rules.proofs.RefreshChangesNothing.{reach_later, same_reach}
 
 -- the laws of the crates below that it stands on
-pub record StillLaws : Type 0 where
+pub record UndueLaws : Type 0 where
   pub expiry : ExpiryIsAMoment
-  pub port : StillPortStays
+  pub port : UnduePortStays
   pub ending : EndingIsAMoment
   pub forgetting : ForgettingIsAMoment
   pub known : HeldIsOfAnEntry
@@ -29,7 +29,7 @@ pub record StillLaws : Type 0 where
   pub usable : UsableOfLater
   pub unwanted : UnwantedOfLater
   pub common : CommonLinkOfLater
-  pub run : StillRunStays
+  pub run : IdleRunStays
 
 -- ---- what a router keeps
 
@@ -47,7 +47,7 @@ comes_later P test now later moment none is = by_test (test later) refl
           | inr past ↦ let already = (moment now).1 (m, p, past) in absurd cc
         ]
 
-module _ (laws : StillLaws) (s : State) (now later : ℕ) (goes : now ≤ later) (none : (m : ℕ) → IsDueAt (at_moment now s) m → now < m → later < m) where
+module _ (laws : UndueLaws) (s : State) (now later : ℕ) (goes : now ≤ later) (none : (m : ℕ) → IsDueAt (at_moment now s) m → now < m → later < m) where
   peer_heard : (port : Port) (peer : Neighbour) → Contains s.ports port → Contains port.peers peer → ¬ (IsExpired (at_moment now s) peer) → ¬ (IsExpired (at_moment later s) peer)
   peer_heard port peer attached there heard (interval, promised, is) =
       let parts = and_parts (nat_lt 0 interval) (nat_le (21 * interval) (10 * (later - peer.contact))) is in
@@ -70,10 +70,10 @@ module _ (laws : StillLaws) (s : State) (now later : ℕ) (goes : now ≤ later)
       all_of (λ (peer : Neighbour). ¬ (IsExpired (at_moment later s) peer)) port.peers
       (λ peer there. peer_heard port peer attached there (All-contains (λ (p : Neighbour). ¬ (IsExpired (at_moment now s) p)) port.peers peer here there)))
 
-  silent_stays : All (IsPortStill now) s.ports → All (IsPortStill later) s.ports
-  silent_stays silent =
-      all_of (IsPortStill later) s.ports
-      (λ port attached. laws.port port now later goes (All-contains (IsPortStill now) s.ports port silent attached) (λ m due. none m (inl (port, attached, inr due))))
+  nothing_came_stays : All (IsPortUndue now) s.ports → All (IsPortUndue later) s.ports
+  nothing_came_stays silent =
+      all_of (IsPortUndue later) s.ports
+      (λ port attached. laws.port port now later goes (All-contains (IsPortUndue now) s.ports port silent attached) (λ m due. none m (inl (port, attached, inr due))))
 
   lasting_stays : has_ended_one now s.delegated ≡ false → has_ended_one later s.delegated ≡ false
   lasting_stays =
@@ -84,8 +84,8 @@ module _ (laws : StillLaws) (s : State) (now later : ℕ) (goes : now ≤ later)
       comes_later (IsForgetting s.table.entries) (λ t. list_any (is_forgotten t) s.table.entries) now later (λ t. laws.forgetting t s.table.entries)
       (λ m end. none m (inr (inl (inr (inr (inl end))))))
 
-  young_stays : now - s.own.born < 2 ^ 32 - 2 ^ 16 → later - s.own.born < 2 ^ 32 - 2 ^ 16
-  young_stays young =
+  ages_stay : now - s.own.born < 2 ^ 32 - 2 ^ 16 → later - s.own.born < 2 ^ 32 - 2 ^ 16
+  ages_stay young =
       let after = none (s.own.born + (2 ^ 32 - 2 ^ 16)) (inr (inl (inr (inl refl)))) (omega (arith, young)) in
       omega (arith, after)
 
@@ -114,7 +114,7 @@ module _ (laws : StillLaws) (s : State) (now later : ℕ) (goes : now ≤ later)
 
     reached_stays : IsReach (at_moment now s) s.reach → now - s.own.born < 2 ^ 32 - 2 ^ 16 → IsReach (at_moment later s) s.reach
     reached_stays is_reach young =
-        reach_later s now later goes is_reach (record { id = refl; body = refl; recent = λ recent. let stays = young_stays young in omega (arith, stays) }) node_like laws.reach
+        reach_later s now later goes is_reach (record { id = refl; body = refl; recent = λ recent. let stays = ages_stay young in omega (arith, stays) }) node_like laws.reach
       where
         node_like : (node : HeldNode) → Contains s.table.entries node → Contains s.reach node.id → IsLike (held_entry now node) (held_entry later node)
         node_like node there reached = record {
@@ -190,19 +190,19 @@ module _ (laws : StillLaws) (s : State) (now later : ℕ) (goes : now ≤ later)
         is_subroutine = laws.run before after assigned.wishes s.held passed assigned.are_asked.ascending assigned.is_subroutine (λ m due. none m (inr (inl (inr (inr (inr due))))));
       }
 
-pub still_stays : StillLaws → StillStays
-still_stays laws s now later router begun goes still none = record {
+pub undue_stays : UndueLaws → UndueStays
+undue_stays laws s now later router begun goes still none = record {
   heard = heard_stays laws s now later goes none still.heard;
   lasting = lasting_stays laws s now later goes none still.lasting;
-  young = young_stays laws s now later goes none still.young;
+  young = ages_stay laws s now later goes none still.young;
   reached = reached_stays laws s now later goes none router.well still.reached still.young;
   kept = kept_stays laws s now later goes none still.kept;
   rests = rests_stays laws s now later goes none router.well begun still.rests;
-  silent = silent_stays laws s now later goes none still.silent;
+  silent = nothing_came_stays laws s now later goes none still.silent;
 }
 
-pub reached_while_uneventful : ReachabilityStays → UneventfulReaches
-reached_while_uneventful reach s now router begun quiet =
+pub reached_while_undue : ReachabilityStays → KeptUndueReaches
+reached_while_undue reach s now router begun quiet =
     let was = router.refreshed.reached in
     let past : was.moment ≤ now = (let before = was.past in omega (arith, before, begun)) in
     same_reach (at_moment now s) was.moment past was.was router.refreshed.lost quiet.young quiet.leads reach

@@ -2,18 +2,18 @@
 use Rattle.hn_base.proofs.Names.{◌≡◌, ◌∙◌, ℕ, ◌≤◌, cond, not, List, [], ◌∷◌, map, Option, Some, refl, sym, ap, subst, ◌==◌, filter_map, cons_option, option_map, All-contains_itself, All-filter}
 use Rattle.hn_base.proofs.Names.{All-weaker}
 use Rattle.hn_rules.proofs.Names.{Contains, NodeId, Assigned, Held, PlainView, AssignedPrefix, Entry, ReachabilityStays, NoneEnds, ArePorts, endpoints_of, OwnItems, OwnPrefix, is_forgotten}
-use Rattle.hn_rules.proofs.Names.{remembered, held, HeldNode, Stored, Running, State, IsRunAssigned, ending, held_entry, own_entry, entry_of, own_items, IsRefresh, IsRefreshed, IsFresh, IsRouter}
-use Rattle.hn_rules.proofs.Names.{AtPort, IsSole, begun_at, with_words, seen_by, at_moment, IsUneventful, IsExpiry, forgetting, IsPortTick, IsLosing, IsSettling, IsTick, from_filter}
+use Rattle.hn_rules.proofs.Names.{remembered, held, HeldNode, Stored, Running, State, IsRunAssigned, ending, held_entry, own_entry, entry_of, own_items, IsRefresh, IsRefreshed, IsJustRefreshed, IsRouter}
+use Rattle.hn_rules.proofs.Names.{AtPort, IsSole, begun_at, with_words, seen_by, at_moment, IsKeptUndue, IsExpiry, forgetting, IsPortTick, IsLosing, IsSettling, IsTick, from_filter}
 use Rattle.hn_assign.specs.Fixed.{AreAssignmentsUnchanged, unmarked}
 use Rattle.hn_assign.specs.declared.held.Ran.{Ran}
 use Rattle.hn_own.specs.HeldPairs.{published_in, publication_of}
-use Rattle.hn_rules.specs.Rested.{IsRested, RestfulTick}
-use Rattle.hn_rules.specs.Updates.{LeavesAges, RestfulTickLeavesAges}
+use Rattle.hn_rules.specs.KeptAtRest.{IsKeptAtRest, CalmTick}
+use Rattle.hn_rules.specs.Updates.{LeavesAges, CalmTickLeavesAges}
 use Rattle.hn_rules.proofs.AssignRuns.{run_seen}
 use Rattle.hn_rules.proofs.Endpoints.{ports_stand}
 use Rattle.hn_rules.proofs.Forgetting.{stays, filter_map-same, same_held, refreshed_forgetting}
 use Rattle.hn_rules.proofs.Leads.{keeps_each}
-use Rattle.hn_rules.proofs.RefreshChangesNothing.{LeadsOn, recent_fresh, same_refresh}
+use Rattle.hn_rules.proofs.RefreshChangesNothing.{LeadsOn, undue_refreshed, same_refresh}
 use Rattle.hn_rules.proofs.Refreshes.{Kept, kept_self, keeps_kept_at, refreshed-later, tick_keeps}
 use Rattle.hn_rules.proofs.Resting.{none_expire_at, only}
 
@@ -34,7 +34,7 @@ published_unmarked (c ∷ xs) = ap (cons_option (publication_of c)) (published_u
 pub same_published : (before after : List Assigned) → AreAssignmentsUnchanged before after → published_in after ≡ published_in before
 same_published before after same = sym (published_unmarked after) ∙ ap (filter_map publication_of) same ∙ published_unmarked before
 
-with_held : (s : State) (ran : Held) → AreAssignmentsUnchanged s.held.assigned ran.assigned → IsFresh s → IsFresh (record s { held = ran })
+with_held : (s : State) (ran : Held) → AreAssignmentsUnchanged s.held.assigned ran.assigned → IsJustRefreshed s → IsJustRefreshed (record s { held = ran })
 with_held s ran same is = record {
   refreshed = record {
     published = ap (λ (list : List AssignedPrefix). let items : OwnItems = record (own_items s) { assigned = list } in items) (same_published s.held.assigned ran.assigned same)
@@ -53,7 +53,7 @@ with_held s ran same is = record {
 
 -- ---- a tick
 
-module _ (laws : CalmLaws) (s : State) (now : ℕ) (router : IsRouter s) (begun : s.moment ≤ now) (quiet : IsUneventful now s) where
+module _ (laws : CalmLaws) (s : State) (now : ℕ) (router : IsRouter s) (begun : s.moment ≤ now) (quiet : IsKeptUndue now s) where
   abbrev pub start : Running
   start = begun_at now s
 
@@ -74,13 +74,13 @@ module _ (laws : CalmLaws) (s : State) (now : ℕ) (router : IsRouter s) (begun 
       let same : ending start ≡ start = ap (λ (list : List OwnPrefix). let x : Running = record start { state = record start.state { delegated = list } } in x)
       ((laws.ending now s.delegated).1 quiet.lasting) in
       let whole : ended ≡ start = ends ∙ ap ending none ∙ same in
-      only IsRefresh laws.one_refresh start lost (subst (λ (x : Running). IsRefresh x lost) whole refresh) (same_refresh start (recent_fresh laws.reach then refreshed_then quiet.young quiet.leads))
+      only IsRefresh laws.one_refresh start lost (subst (λ (x : Running). IsRefresh x lost) whole refresh) (same_refresh start (undue_refreshed laws.reach then refreshed_then quiet.young quiet.leads))
 
   refreshed_forgot : IsRefreshed forgot
   refreshed_forgot = refreshed_forgetting laws.reach start refreshed_then
 
-  pub fresh_forgot : IsFresh forgot
-  fresh_forgot = recent_fresh laws.reach forgot refreshed_forgot quiet.young (All-filter (stays now) (LeadsOn now) s.table.entries quiet.leads)
+  pub refreshed_forgot : IsJustRefreshed forgot
+  refreshed_forgot = undue_refreshed laws.reach forgot refreshed_forgot quiet.young (All-filter (stays now) (LeadsOn now) s.table.entries quiet.leads)
 
   -- what is held of a reachable node stays
   pub known_forgot : (id : NodeId) → Contains s.reach id → held forgot.table.entries id.0 ≡ held s.table.entries id.0
@@ -113,7 +113,7 @@ module _ (laws : CalmLaws) (s : State) (now : ℕ) (router : IsRouter s) (begun 
         let same = changes_none ran (assigned_then ran assigns.is_assigned) in
         let after : Running = with_words ran.words (record (forgetting start) { state = record forgot { held = ran.held } }) in
         let here : IsRefresh after settled = subst (λ (x : Running). IsRefresh x settled) assigns.gives refresh in
-        let none : settled ≡ after = only IsRefresh laws.one_refresh after settled here (same_refresh after (with_held forgot ran.held same fresh_forgot)) in
+        let none : settled ≡ after = only IsRefresh laws.one_refresh after settled here (same_refresh after (with_held forgot ran.held same refreshed_forgot)) in
         record { holds = ran.held; same = same; is = ap (λ (x : Running). x.state) none }
 
     -- the router after it, but for its endpoints
@@ -139,7 +139,7 @@ module _ (laws : CalmLaws) (s : State) (now : ℕ) (router : IsRouter s) (begun 
           is = kept.untouched.gives ∙ ap (λ (x : State). let y : State = record x { ports = after.state.ports } in y) rest.is;
         }
 
-    rested : (after : Running) → IsTick start after → IsRested s after.state
+    rested : (after : Running) → IsTick start after → IsKeptAtRest s after.state
     rested after tick =
         let w = whole_of after tick in
         let whole = w.is in
@@ -166,8 +166,8 @@ module _ (laws : CalmLaws) (s : State) (now : ℕ) (router : IsRouter s) (begun 
               (subst (λ (list : List HeldNode). Contains list node) (ap (λ (x : State). x.table.entries) whole) there)).0;
         }
 
-pub restful_tick : CalmLaws → RestfulTick
-restful_tick laws now s after router begun quiet changes_none tick = rested laws s now router begun quiet changes_none after tick
+pub calm_tick : CalmLaws → CalmTick
+calm_tick laws now s after router begun quiet changes_none tick = rested laws s now router begun quiet changes_none after tick
 
-pub restful_tick_leaves_ages : CalmLaws → RestfulTickLeavesAges
-restful_tick_leaves_ages laws now s after router begun quiet changes_none tick = leaves laws s now router begun quiet changes_none after tick
+pub calm_tick_leaves_ages : CalmLaws → CalmTickLeavesAges
+calm_tick_leaves_ages laws now s after router begun quiet changes_none tick = leaves laws s now router begun quiet changes_none after tick

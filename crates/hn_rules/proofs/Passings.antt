@@ -1,12 +1,12 @@
 -- What an arrival makes of a status update that is let pass.
 use Rattle.hn_base.proofs.Names.{◌≡◌, ◌≢◌, ◌∙◌, ℕ, Bool, true, false, List, [], ◌∷◌, ◌++◌, Option, Some, None, inl, refl, sym, ap, ◌||◌, option_map_or, bytes_eq, cond-false, ne_eqb, IsLinkLocal}
 use Rattle.hn_rules.proofs.Names.{not, is_some, NodeId, EpId, may_ask, hashed, has_peer, Port, ArePorts, port_at, put_port, Origin, Running, State, IsTlvRule, IsTlvs, IsArrival, compared}
-use Rattle.hn_rules.proofs.Names.{network_state, node_endpoint, IsStatusUpdate, IsFresh, AtPort, begun_at, with_port}
+use Rattle.hn_rules.proofs.Names.{network_state, node_endpoint, IsStatusUpdate, IsJustRefreshed, AtPort, begun_at, with_port}
 use Rattle.hn_typed.specs.Item as item
 use Rattle.hn_rules.specs.Passing.{IsLetPass}
 use Rattle.hn_rules.proofs.AtPorts.{at_port}
 use Rattle.hn_rules.proofs.RefreshChangesNothing.{same_refresh}
-use Rattle.hn_rules.proofs.Refreshes.{fresh_untouched}
+use Rattle.hn_rules.proofs.Refreshes.{refreshed_untouched}
 use Rattle.hn_rules.proofs.Resting.{named_stays, compared_stays}
 use Rattle.hn_rules.proofs.TouchesNothingRead.{network_state_untouched}
 
@@ -21,7 +21,7 @@ pub record IsPassing (from : Origin) (bytes : List ℕ) (now : ℕ) (s : State) 
   pub numbered : endpoint.0 ≢ 0
   pub other : node.0 ≢ s.id.0
   pub stays : (has_peer node endpoint port.peers || not (may_ask now port.asked)) ≡ true
-  pub fresh : IsFresh (record s { moment = now })
+  pub fresh : IsJustRefreshed (record s { moment = now })
 
 module _ (from : Origin) (bytes : List ℕ) (now : ℕ) (s : State) (node : NodeId) (endpoint : EpId) (hash : List ℕ) (port : Port)
     (passes : IsPassing from bytes now s node endpoint hash port) where
@@ -49,8 +49,8 @@ module _ (from : Origin) (bytes : List ℕ) (now : ℕ) (s : State) (node : Node
       second : IsTlvRule from passes.update.second named after
       second = inl (item.NetworkState hash passes.update.within_second, passes.update.state, states)
 
-      fresh : IsFresh after.state
-      fresh = fresh_untouched named.state after.state (network_state_untouched from hash named after passes.ports states) passes.fresh
+      fresh : IsJustRefreshed after.state
+      fresh = refreshed_untouched named.state after.state (network_state_untouched from hash named after passes.ports states) passes.fresh
 
       tlvs : IsTlvs from (passes.update.first ∷ passes.update.second ∷ []) start after
       tlvs = (named, (named, first, same_refresh named passes.fresh), (after, (after, second, same_refresh after fresh), refl))

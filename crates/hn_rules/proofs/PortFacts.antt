@@ -1,6 +1,6 @@
 -- What holds of an endpoint still holds after each thing that happens to it.
 use Rattle.hn_base.proofs.Names.{◌≤◌, ℕ, Bool, true, false, cond, List, [], ◌∷◌, ◌++◌, length, map, get_or, Option, Some, None, arith, All, ◌==◌, cond_both, All-nil, All-map, All-push}
-use Rattle.hn_rules.proofs.Names.{NodeId, EpId, Interval, interval_from, has_to_send, is_silent, Neighbour, Port, is_peer, has_peer, attached_port, peers_heard, may_ask, asked, contacted, hashed}
+use Rattle.hn_rules.proofs.Names.{NodeId, EpId, Interval, interval_from, has_to_send, is_keep_alive_due, Neighbour, Port, is_peer, has_peer, attached_port, peers_heard, may_ask, asked, contacted, hashed}
 use Rattle.hn_rules.proofs.Names.{ticked, Without, IfThere}
 use Rattle.std.specs.Prelude.{slice_index}
 use Rattle.hn_base.specs.declared.addr.Addr.{Addr}
@@ -139,8 +139,8 @@ module _ (now : ℕ) where
   well-keep_alive word port well = record {
     peers = well.peers;
     past = record {
-      begun = cond_both (is_silent port.sent now) (interval_from now port.trickle.len word) port.trickle BegunBy (λ _. omega arith) (λ _. well.past.begun);
-      sent = cond_both (is_silent port.sent now) now port.sent By (λ _. omega arith) (λ _. well.past.sent);
+      begun = cond_both (is_keep_alive_due port.sent now) (interval_from now port.trickle.len word) port.trickle BegunBy (λ _. omega arith) (λ _. well.past.begun);
+      sent = cond_both (is_keep_alive_due port.sent now) now port.sent By (λ _. omega arith) (λ _. well.past.sent);
       asked = well.past.asked;
       heard = well.past.heard;
     };

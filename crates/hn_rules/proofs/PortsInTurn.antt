@@ -86,10 +86,10 @@ module _ (rule : Port → Rule) (puts : (port : Port) (x y : Running) → rule p
 
   -- they stay in order
   pub are_ports : (ats : List EpId) (r a : Running) → InTurn ats r a → ArePorts r.state.ports → ArePorts a.state.ports
-  are_ports = keeps_each AreStill (λ at. AtPort at rule) (λ at. keeps_option AreStill at rule (λ port x y found. one port x y))
+  are_ports = keeps_each ArePortsUndue (λ at. AtPort at rule) (λ at. keeps_option ArePortsUndue at rule (λ port x y found. one port x y))
     where
-      AreStill : Running → Type 0
-      AreStill x = ArePorts x.state.ports
+      ArePortsUndue : Running → Type 0
+      ArePortsUndue x = ArePorts x.state.ports
 
       one : (port : Port) (x y : Running) → rule port x y → ArePorts x.state.ports → ArePorts y.state.ports
       one port x y ran are = let p = puts port x y ran in subst (λ (s : State). ArePorts s.ports) (sym p.gives) (are-put p.next x.state.ports are)

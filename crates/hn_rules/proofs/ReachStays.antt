@@ -127,14 +127,14 @@ peers_back a b same link = let one = same link in (one.1, one.0)
 pub reach_rests : ReachabilityStays → SameLinksReach → (now : ℕ) (r a : Running) → now ≡ r.state.moment → KnowsReach r.state
     → now - r.state.own.born < 2 ^ 32 - 2 ^ 16 → All (LeadsOn now) r.state.table.entries
     → IsPublishing r a → HaveSamePeers r.state.own.body a.state.own.body → IsReaching a a
-reach_rests stays law now r a same_moment known young_now leads_now publishing same_peers =
+reach_rests stays law now r a same_moment known ages_now leads_now publishing same_peers =
     let both = by_publishing publishing in reaching_rests a both.0 both.1
   where
     s : State
     s = r.state
 
     young : s.moment - s.own.born < 2 ^ 32 - 2 ^ 16
-    young = subst (λ (n : ℕ). n - s.own.born < 2 ^ 32 - 2 ^ 16) same_moment young_now
+    young = subst (λ (n : ℕ). n - s.own.born < 2 ^ 32 - 2 ^ 16) same_moment ages_now
 
     before : IsReach s s.reach
     before =

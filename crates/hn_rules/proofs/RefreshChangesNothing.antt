@@ -2,7 +2,7 @@
 use Rattle.hn_base.proofs.Names.{◌≡◌, ◌<◌, ◌≤◌, ◌-◌, ◌^◌, ◌∙◌, ℕ, Bool, true, false, List, [], ◌∷◌, map, filter, nat_lt, Option, Some, None, inl, inr, refl, sym, ap, subst, arith, All, is_none}
 use Rattle.hn_base.proofs.Names.{All-head, All-tail, All-contains, Contains-append_left, Contains-append_right, Contains-append_cases}
 use Rattle.hn_rules.proofs.Names.{Contains, ◌⊎◌, NodeId, Contains-head, Contains-tail, Contains-cases, Contains-map, Contains-from_map, in_filter, from_filter, Entry, IsReachable, IsLike, KeepsReach}
-use Rattle.hn_rules.proofs.Names.{ReachabilityStays, is_among, lost_after, marked_node, HeldNode, State, Running, age_at, held_entry, own_entry, IsReach, IsReaching, IsRefresh, IsRefreshed, IsFresh}
+use Rattle.hn_rules.proofs.Names.{ReachabilityStays, is_among, lost_after, marked_node, HeldNode, State, Running, age_at, held_entry, own_entry, IsReach, IsReaching, IsRefresh, IsRefreshed, IsJustRefreshed}
 use Rattle.hn_rules.proofs.Forgetting.{between, among_reach, IsMarked}
 use Rattle.hn_base.proofs.DecidingTests.{from_is_none}
 
@@ -121,14 +121,14 @@ module _ (s : State) where
           record { id = refl; body = refl; recent = λ _. leading }
 
 -- where no age is due, what a refresh made is so now
-pub recent_fresh : ReachabilityStays → (s : State) → IsRefreshed s → s.moment - s.own.born < 2 ^ 32 - 2 ^ 16 → All (LeadsOn s.moment) s.table.entries → IsFresh s
-recent_fresh reach_stays s is young leads =
+pub undue_refreshed : ReachabilityStays → (s : State) → IsRefreshed s → s.moment - s.own.born < 2 ^ 32 - 2 ^ 16 → All (LeadsOn s.moment) s.table.entries → IsJustRefreshed s
+undue_refreshed reach_stays s is young leads =
     record { refreshed = is; reached = same_reach s is.reached.moment is.reached.past is.reached.was is.lost young leads reach_stays; young = young }
 
 -- so it is at a moment that is the router's
-pub recent_now : ReachabilityStays → (now : ℕ) (s : State) → now ≡ s.moment → IsRefreshed s → now - s.own.born < 2 ^ 32 - 2 ^ 16 → All (LeadsOn now) s.table.entries → IsFresh s
-recent_now reach_stays now s same is young leads =
-    recent_fresh reach_stays s is (subst (λ (n : ℕ). n - s.own.born < 2 ^ 32 - 2 ^ 16) same young) (subst (λ (n : ℕ). All (LeadsOn n) s.table.entries) same leads)
+pub leads_on_now : ReachabilityStays → (now : ℕ) (s : State) → now ≡ s.moment → IsRefreshed s → now - s.own.born < 2 ^ 32 - 2 ^ 16 → All (LeadsOn now) s.table.entries → IsJustRefreshed s
+leads_on_now reach_stays now s same is young leads =
+    undue_refreshed reach_stays s is (subst (λ (n : ℕ). n - s.own.born < 2 ^ 32 - 2 ^ 16) same young) (subst (λ (n : ℕ). All (LeadsOn n) s.table.entries) same leads)
 
 -- where the same nodes are reachable and each has its moment of loss, the search changes nothing
 pub reaching_rests : (r : Running) → IsReach r.state r.state.reach → All (IsMarked r.state.reach) r.state.table.entries → IsReaching r r
@@ -142,7 +142,7 @@ reaching_rests r is_reach marked = record {
     with_nodes nodes = record r { state = record r.state { table = record r.state.table { entries = nodes } } }
 
 -- a refresh that changes nothing
-pub same_refresh : (r : Running) → IsFresh r.state → IsRefresh r r
+pub same_refresh : (r : Running) → IsJustRefreshed r.state → IsRefresh r r
 same_refresh r fresh =
     let is = fresh.refreshed in
     (r, inl (record { same = is.published; young = fresh.young }, refl), (r, reaching_rests r fresh.reached is.lost, inl (sym is.hashed, refl)))

@@ -3,7 +3,7 @@ use Rattle.hn_base.proofs.Names.{◌≡◌, ◌<◌, ◌≤◌, ◌-◌, ◌^◌
 use Rattle.hn_base.proofs.Names.{find, is_none, nat_cmp, Less, AllByRecursion, ranked, cond_both, eqb-true, eqb-false, All-nil, All-cons, All-head, All-tail, All-map, All-weaker}
 use Rattle.hn_rules.proofs.Names.{◌↔◌, Contains, NodeId, EpId, Entry, IsReachable, interval_from, Port, ticked, HeldNode, is_among, lost_after, marked_node, State, Running, links_at, links_of, number}
 use Rattle.hn_rules.proofs.Names.{ArePorts, is_port, port_at, put_port, endpoints_of, held_entry, own_entry, IsReach, Rule, AtPort, with_port, own_items, IsPublishing, IsReaching, network_state_hash}
-use Rattle.hn_rules.proofs.Names.{IsPortReset, IsHashing, IsRefresh, IsPortSending, IsPortTick, IsPortsTick, EachKeeps, IsWell, IsRefreshed, IsFresh, IsUntouched, IsRouter}
+use Rattle.hn_rules.proofs.Names.{IsPortReset, IsHashing, IsRefresh, IsPortSending, IsPortTick, IsPortsTick, EachKeeps, IsWell, IsRefreshed, IsJustRefreshed, IsUntouched, IsRouter}
 use Rattle.std.specs.List.Sorted.{IsStrictlySortedBy}
 use Rattle.hn_rules.proofs.PartsOfRouters.{are-put}
 use Rattle.hn_rules.proofs.Leads.{Keeps, keeps_option, keeps_each}
@@ -68,8 +68,8 @@ refreshed_ports s ports same is = record {
   hashed = is.hashed;
 }
 
-fresh_ports : (s : State) (ports : List Port) → links_of ports ≡ links_of s.ports → IsFresh s → IsFresh (record s { ports = ports })
-fresh_ports s ports same is = record {
+refreshed_ports : (s : State) (ports : List Port) → links_of ports ≡ links_of s.ports → IsJustRefreshed s → IsJustRefreshed (record s { ports = ports })
+refreshed_ports s ports same is = record {
   refreshed = refreshed_ports s ports same is.refreshed;
   reached = record { ascending = is.reached.ascending; exactly = is.reached.exactly };
   young = is.young;
@@ -86,8 +86,8 @@ untouched_same s a is = subst (IsUntouched s) (sym is) (untouched_self s)
 pub refreshed_untouched : (s a : State) → IsUntouched s a → IsRefreshed s → IsRefreshed a
 refreshed_untouched s a untouched is = subst IsRefreshed (sym untouched.gives) (refreshed_ports s a.ports untouched.links is)
 
-pub fresh_untouched : (s a : State) → IsUntouched s a → IsFresh s → IsFresh a
-fresh_untouched s a untouched is = subst IsFresh (sym untouched.gives) (fresh_ports s a.ports untouched.links is)
+pub refreshed_untouched : (s a : State) → IsUntouched s a → IsJustRefreshed s → IsJustRefreshed a
+refreshed_untouched s a untouched is = subst IsJustRefreshed (sym untouched.gives) (refreshed_ports s a.ports untouched.links is)
 
 -- so it is since a state
 pub record IsKept (start s : State) : Type 0 where
@@ -134,9 +134,9 @@ published_after : (r a : Running) → IsPublishing r a → own_items a.state ≡
 published_after r a (inl (published, is)) = subst (λ (x : Running). own_items x.state ≡ x.state.own.items) (sym is) published.same
 published_after r a (inr (other, is)) = subst (λ (x : Running). own_items x.state ≡ x.state.own.items) (sym is.gives) (sym is.items_are)
 
-young_after : (r a : Running) → IsPublishing r a → a.state.moment - a.state.own.born < 2 ^ 32 - 2 ^ 16
-young_after r a (inl (published, is)) = subst (λ (x : Running). x.state.moment - x.state.own.born < 2 ^ 32 - 2 ^ 16) (sym is) published.young
-young_after r a (inr (other, is)) =
+ages_after : (r a : Running) → IsPublishing r a → a.state.moment - a.state.own.born < 2 ^ 32 - 2 ^ 16
+ages_after r a (inl (published, is)) = subst (λ (x : Running). x.state.moment - x.state.own.born < 2 ^ 32 - 2 ^ 16) (sym is) published.young
+ages_after r a (inr (other, is)) =
     let born = is.born_is in subst (λ (x : Running). x.state.moment - x.state.own.born < 2 ^ 32 - 2 ^ 16) (sym is.gives) (omega (arith, born))
 
 -- a mark changes nothing of what is seen of a node
@@ -166,7 +166,7 @@ reached_after r a is published young = subst (λ (x : Running). IsReached x.stat
     exactly : (id : NodeId) → Contains is.reach id ↔ IsReachable r.state.id.0 (among (map (held_entry r.state.moment) (map (marked_node is.reach r.state.moment) r.state.table.entries))) id.0
     exactly id = rw (seen_marked is.reach r.state.moment r.state.moment r.state.table.entries) (is.is_reach.exactly id)
 
-with_hash : (s : State) (net : List ℕ) → IsReached s → net ≡ network_state_hash s → IsFresh (record s { net = net })
+with_hash : (s : State) (net : List ℕ) → IsReached s → net ≡ network_state_hash s → IsJustRefreshed (record s { net = net })
 with_hash s net is same = record {
   refreshed = record {
     published = is.published;
@@ -182,24 +182,24 @@ pub reset_keeps : KeepsLinks IsPortReset
 reset_keeps start port r a (inl (shortest, is)) changed kept = subst (Kept start) (sym is) kept
 reset_keeps start port r a (inr (longer, (word, is))) changed kept = subst (Kept start) (sym is) (changed (record port { trickle = interval_from r.state.moment 200 word }) refl refl)
 
-fresh_hashing : (r a : Running) → IsHashing r a → ArePorts r.state.ports → IsReached r.state → IsFresh a.state
-fresh_hashing r a (inl (same, is)) are reached = subst (λ (x : Running). IsFresh x.state) (sym is) (with_hash r.state r.state.net reached (sym same))
-fresh_hashing r a (inr (other, resets)) are reached =
+refreshed_hashing : (r a : Running) → IsHashing r a → ArePorts r.state.ports → IsReached r.state → IsJustRefreshed a.state
+refreshed_hashing r a (inl (same, is)) are reached = subst (λ (x : Running). IsJustRefreshed x.state) (sym is) (with_hash r.state r.state.net reached (sym same))
+refreshed_hashing r a (inr (other, resets)) are reached =
     let hashed : Running = record r { state = record r.state { net = network_state_hash r.state } } in
-    let start : IsFresh hashed.state = with_hash r.state (network_state_hash r.state) reached refl in
+    let start : IsJustRefreshed hashed.state = with_hash r.state (network_state_hash r.state) reached refl in
     let kept : Kept hashed.state a = keeps_each (Kept hashed.state) (λ at. AtPort at IsPortReset)
     (λ at. keeps_kept_at hashed.state at IsPortReset reset_keeps) (endpoints_of r.state.ports) hashed a resets (kept_self hashed.state are) in
-    fresh_untouched hashed.state a.state kept.untouched start
+    refreshed_untouched hashed.state a.state kept.untouched start
 
 ports_after : (r a : Running) → IsPublishing r a → a.state.ports ≡ r.state.ports
 ports_after r a (inl (published, is)) = ap (λ (x : Running). x.state.ports) is
 ports_after r a (inr (other, is)) = ap (λ (x : Running). x.state.ports) is.gives
 
 -- after a refresh
-pub fresh_refresh : (r a : Running) → IsRefresh r a → ArePorts r.state.ports → IsFresh a.state
-fresh_refresh r a (published, publishes, (reached, reaches, hashes)) are =
+pub refreshed_refresh : (r a : Running) → IsRefresh r a → ArePorts r.state.ports → IsJustRefreshed a.state
+refreshed_refresh r a (published, publishes, (reached, reaches, hashes)) are =
     let same : reached.state.ports ≡ r.state.ports = ap (λ (x : Running). x.state.ports) reaches.gives ∙ ports_after r published publishes in
-    fresh_hashing reached a hashes (subst ArePorts (sym same) are) (reached_after published reached reaches (published_after r published publishes) (young_after r published publishes))
+    refreshed_hashing reached a hashes (subst ArePorts (sym same) are) (reached_after published reached reaches (published_after r published publishes) (ages_after r published publishes))
 
 pub tick_keeps : KeepsLinks IsPortTick
 tick_keeps start port r a (between, moves, sends) changed kept =
@@ -221,7 +221,7 @@ Well r = IsWell r.state
 -- a refresh makes a router
 pub router_refresh : EachKeeps [] Well → (r a : Running) → IsRefresh r a → Well r → Router a
 router_refresh each r a refreshes well =
-    record { well = refresh_walk [] Well each r a refreshes well; refreshed = (fresh_refresh r a refreshes well.ports).refreshed }
+    record { well = refresh_walk [] Well each r a refreshes well; refreshed = (refreshed_refresh r a refreshes well.ports).refreshed }
 
 pub router_ticks : EachKeeps [] Well → Keeps Router IsPortsTick
 router_ticks each r a ticks router =

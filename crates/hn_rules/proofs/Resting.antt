@@ -1,7 +1,7 @@
 -- Where a rule finds that nothing changes, it leaves the router as it is.
 use Rattle.hn_base.proofs.Names.{◌≡◌, ◌∙◌, ℕ, Bool, true, false, cond, List, [], ◌∷◌, Option, Some, None, inr, refl, sym, ap, All, ◌||◌, cond-false, append-nil, All-contains, RuleOf, Each, OnSome}
 use Rattle.hn_base.proofs.Names.{Begins, get_or}
-use Rattle.hn_rules.proofs.Names.{not, found_passes, NodeId, EpId, may_ask, asked, IsPortStill, IsIdleAt, greeting, hashed, StillPortIsIdle, has_peer, ticked, Greet, Known, Unknown, Neighbour, Port}
+use Rattle.hn_rules.proofs.Names.{not, found_passes, NodeId, EpId, may_ask, asked, IsPortUndue, IsIdleAt, greeting, hashed, UnduePortIsIdle, has_peer, ticked, Greet, Known, Unknown, Neighbour, Port}
 use Rattle.hn_rules.proofs.Names.{ArePorts, is_port, port_at, endpoints_of, PlainState, Accepts, Nodes, OwnLeaf, Took, Origin, Running, with_answer, compared, greeting_port, met, named, TakesState}
 use Rattle.hn_rules.proofs.Names.{own_leaf, Rule, AtPort, IsSole, with_port, with_words, AreHeard, IsExpired, IsPortExpiry, IsExpiry, IsPortMoving, IsPortTick, IsPortsTick}
 use Rattle.hn_dncp.specs.Greet as dncp
@@ -34,7 +34,7 @@ none_expire_at r are heard =
     (λ at. none_expire at r are (λ port found. found_of (λ (p : Port). All (λ (peer : Neighbour). ¬ (IsExpired r.state peer)) p.peers) at r.state.ports port heard found))
 
 -- nothing is due at an endpoint
-pub port_rests : StillPortIsIdle → (at : EpId) (port : Port) (r : Running) → ArePorts r.state.ports → port_at at r.state.ports ≡ Some port → IsPortStill r.state.moment port → IsPortTick port r r
+pub port_rests : UnduePortIsIdle → (at : EpId) (port : Port) (r : Running) → ArePorts r.state.ports → port_at at r.state.ports ≡ Some port → IsPortUndue r.state.moment port → IsPortTick port r r
 port_rests law at port r are found still = (r, moves, inr (idle.unsent, refl))
   where
     idle : IsIdleAt r.state.moment port
@@ -50,12 +50,12 @@ port_rests law at port r are found still = (r, moves, inr (idle.unsent, refl))
     moves = record { words = []; as_many = sym idle.untaken; gives = sym (ap (with_words []) put ∙ none) }
 
 -- nothing is due at any endpoint
-pub ports_rest : StillPortIsIdle → (r : Running) → ArePorts r.state.ports → All (IsPortStill r.state.moment) r.state.ports → IsPortsTick r r
+pub ports_rest : UnduePortIsIdle → (r : Running) → ArePorts r.state.ports → All (IsPortUndue r.state.moment) r.state.ports → IsPortsTick r r
 ports_rest law r are still = each_rests (λ at. AtPort at IsPortTick) (endpoints_of r.state.ports) r (λ at. one at (port_at at r.state.ports) refl)
   where
     one : (at : EpId) (o : Option Port) → port_at at r.state.ports ≡ o → OnSome IsPortTick o r r
     one at None found = refl
-    one at (Some port) found = port_rests law at port r are found (found_of (IsPortStill r.state.moment) at r.state.ports port still found)
+    one at (Some port) found = port_rests law at port r are found (found_of (IsPortUndue r.state.moment) at r.state.ports port still found)
 
 -- ---- a Network State
 

@@ -1,10 +1,10 @@
 -- A tick keeps the identifier.
 use Rattle.hn_base.proofs.Names.{◌≡◌, ◌∙◌, inl, inr, refl, ap}
 use Rattle.hn_rules.proofs.Names.{Port, endpoints_of, Running, State, IsPortReset, IsPublishing, IsHashing, IsRefresh, AtPort, IsTick}
-use Rattle.hn_rules.specs.Rested.{KeepsId}
+use Rattle.hn_rules.specs.KeptAtRest.{KeepsId}
 use Rattle.hn_rules.proofs.Leads.{keeps_each, keeps_option}
 use Rattle.hn_rules.proofs.NoPeerExpired.{expiry_ports}
-use Rattle.hn_rules.proofs.SilentPorts.{ticks_ports}
+use Rattle.hn_rules.proofs.PortsOfNothing.{ticks_ports}
 
 publishing_id : KeepsId IsPublishing
 publishing_id r a (inl (published, is)) = ap (λ (x : Running). x.state.id) is

@@ -1,6 +1,6 @@
 -- After a tick each endpoint last sent less than 20 s ago.
 use Rattle.hn_base.proofs.Names.{◌≡◌, ◌∙◌, ◌<◌, ◌+◌, ◌-◌, ℕ, Bool, true, false, cond, List, Some, inl, inr, refl, sym, ap, subst, arith, leb-false, same_Some}
-use Rattle.hn_rules.proofs.Names.{Contains, Contains-map, Contains-from_map, EpId, has_to_send, is_silent, ticked, Port, ArePorts, port_at, endpoints_of, Running, State, IsAssigning, ending}
+use Rattle.hn_rules.proofs.Names.{Contains, Contains-map, Contains-from_map, EpId, has_to_send, is_keep_alive_due, ticked, Port, ArePorts, port_at, endpoints_of, Running, State, IsAssigning, ending}
 use Rattle.hn_rules.proofs.Names.{RouterStaysLater, KeepsRouter, KeepsWell, KeepsEndpoints, RefreshMakesRouter, AssigningKeeps, IsRefresh, IsWell, IsRouter, begun_at, IsExpiry, forgetting}
 use Rattle.hn_rules.proofs.Names.{IsPortSending, IsPortTick, IsPortsTick}
 use Rattle.hn_rules.specs.Updates.{TicksHaveSent}
@@ -20,14 +20,14 @@ pub record SentLaws : Type 0 where
 
 -- ---- one endpoint
 
-not_long_ago : (now last : ℕ) (c : Bool) → is_silent last now ≡ c → now < cond c now last + 20000
+not_long_ago : (now last : ℕ) (c : Bool) → is_keep_alive_due last now ≡ c → now < cond c now last + 20000
 not_long_ago now last true is = omega arith
 not_long_ago now last false is = let less = leb-false 20000 (now - last) is in omega (arith, less)
 
 ticked_lately : (now : ℕ) (words : List ℕ) (port : Port) → now < (ticked now words port).sent + 20000
 ticked_lately now words port =
     let last : ℕ = cond (has_to_send now port.trickle) now port.sent in
-    not_long_ago now last (is_silent last now) refl
+    not_long_ago now last (is_keep_alive_due last now) refl
 
 sent_same : (port : Port) (moved a : Running) → IsPortSending port moved a → a.state ≡ moved.state
 sent_same port moved a (inl (due, is)) = ap (λ (z : Running). z.state) is.gives

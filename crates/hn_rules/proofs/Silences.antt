@@ -6,8 +6,8 @@ use Rattle.hn_rules.proofs.Growing.{only_add}
 use Rattle.hn_rules.proofs.Leads.{Walk}
 
 -- nothing came of it
-abbrev pub Silent : Running → Type 0
-Silent r = r.done ≡ nothing
+abbrev pub CameToNothing : Running → Type 0
+CameToNothing r = r.done ≡ nothing
 
 -- ---- lists
 
@@ -34,8 +34,8 @@ none_grown : {A : Type 0} (front list : List A) → BeginsWith front list → li
 none_grown front list (more, is) none = none_before front more (sym is ∙ none)
 
 -- a rule of which nothing came in the end
-pub silent_walk : (rule : Rule) → Walk [] rule → (before after : Running) → rule before after → Silent after → Silent before
-silent_walk rule walk before after holds silent =
+pub nothing_came_walk : (rule : Rule) → Walk [] rule → (before after : Running) → rule before after → CameToNothing after → CameToNothing before
+nothing_came_walk rule walk before after holds silent =
     let done = before.done in
     let same : GrowsFrom done before = record { sends = itself done.sends; notes = itself done.notes; published = itself done.published; words = itself done.words } in
     let grows = walk (GrowsFrom done) (only_add [] done) before after holds same in
@@ -49,37 +49,37 @@ silent_walk rule walk before after holds silent =
 -- ---- a refresh
 
 -- Trickle is reset on no endpoint, as that takes a word
-silent_reset : (port : Port) (r a : Running) → IsPortReset port r a → Silent a → a ≡ r
-silent_reset port r a (inl (shortest, is)) silent = is
-silent_reset port r a (inr (longer, (word, is))) silent =
+nothing_came_reset : (port : Port) (r a : Running) → IsPortReset port r a → CameToNothing a → a ≡ r
+nothing_came_reset port r a (inl (shortest, is)) silent = is
+nothing_came_reset port r a (inr (longer, (word, is))) silent =
     absurd (some_after r.done.words word [] (sym (ap (λ (x : Running). x.done.words) is) ∙ ap (λ (d : Done). d.words) silent))
 
-silent_resets : (ats : List EpId) (r a : Running) → Each (λ at. AtPort at IsPortReset) ats r a → Silent a → a ≡ r
-silent_resets [] r a is silent = is
-silent_resets (at ∷ ats) r a (between, one, more) silent =
-    let last : a ≡ between = silent_resets ats between a more silent in
-    last ∙ by_port (port_at at r.state.ports) one (subst Silent last silent)
+nothing_came_resets : (ats : List EpId) (r a : Running) → Each (λ at. AtPort at IsPortReset) ats r a → CameToNothing a → a ≡ r
+nothing_came_resets [] r a is silent = is
+nothing_came_resets (at ∷ ats) r a (between, one, more) silent =
+    let last : a ≡ between = nothing_came_resets ats between a more silent in
+    last ∙ by_port (port_at at r.state.ports) one (subst CameToNothing last silent)
   where
-    by_port : (o : Option Port) → OnSome IsPortReset o r between → Silent between → between ≡ r
+    by_port : (o : Option Port) → OnSome IsPortReset o r between → CameToNothing between → between ≡ r
     by_port None is quiet = is
-    by_port (Some port) is quiet = silent_reset port r between is quiet
+    by_port (Some port) is quiet = nothing_came_reset port r between is quiet
 
 -- with another network state hash
 abbrev with_net : List ℕ → Running → Running
 with_net net r = record r { state = record r.state { net = net } }
 
-silent_hashing : (r a : Running) → IsHashing r a → Silent a → (net : List ℕ) × (a ≡ with_net net r)
-silent_hashing r a (inl (same, is)) silent = (r.state.net, is)
-silent_hashing r a (inr (other, resets)) silent =
+nothing_came_hashing : (r a : Running) → IsHashing r a → CameToNothing a → (net : List ℕ) × (a ≡ with_net net r)
+nothing_came_hashing r a (inl (same, is)) silent = (r.state.net, is)
+nothing_came_hashing r a (inr (other, resets)) silent =
     let net = network_state_hash r.state in
-    (net, silent_resets (endpoints_of r.state.ports) (with_net net r) a resets silent)
+    (net, nothing_came_resets (endpoints_of r.state.ports) (with_net net r) a resets silent)
 
 -- with other reachable nodes and moments of loss, and another network state hash
 abbrev pub seen_again : List NodeId → List ℕ → State → State
 seen_again reach net s = record s { reach = reach; table = loss_marked reach s.moment s.table; net = net }
 
 -- nothing was published, and no word was taken
-pub record IsSilentRefresh (r a : Running) : Type 0 where
+pub record IsRefreshOfNothing (r a : Running) : Type 0 where
   pub published : IsPublished r.state
   pub reach : List NodeId
   pub is_reach : IsReach r.state reach
@@ -87,20 +87,20 @@ pub record IsSilentRefresh (r a : Running) : Type 0 where
   pub gives : a.state ≡ seen_again reach net r.state
   pub done : a.done ≡ r.done
 
-silent_published : (r a : Running) → IsPublishing r a → Silent a → IsPublished r.state × (a ≡ r)
-silent_published r a (inl (published, is)) silent = (published, is)
-silent_published r a (inr (other, is)) silent =
+nothing_came_published : (r a : Running) → IsPublishing r a → CameToNothing a → IsPublished r.state × (a ≡ r)
+nothing_came_published r a (inl (published, is)) silent = (published, is)
+nothing_came_published r a (inr (other, is)) silent =
     absurd (some_after r.done.published _ [] (sym (ap (λ (x : Running). x.done.published) is.gives) ∙ ap (λ (d : Done). d.published) silent))
 
 abbrev reaching_to : List NodeId → Running → Running
 reaching_to reach r = record r { state = record r.state { reach = reach; table = loss_marked reach r.state.moment r.state.table } }
 
-pub silent_refresh : (r a : Running) → IsRefresh r a → Silent a → IsSilentRefresh r a
-silent_refresh r a (published, publishes, (reached, reaches, hashes)) silent =
-    let (net, hashed) = silent_hashing reached a hashes silent in
+pub refresh_of_nothing : (r a : Running) → IsRefresh r a → CameToNothing a → IsRefreshOfNothing r a
+refresh_of_nothing r a (published, publishes, (reached, reaches, hashes)) silent =
+    let (net, hashed) = nothing_came_hashing reached a hashes silent in
     let then : a.done ≡ reached.done = ap (λ (x : Running). x.done) hashed in
     let before : reached.done ≡ published.done = ap (λ (x : Running). x.done) reaches.gives in
-    let (was, same) = silent_published r published publishes (sym before ∙ sym then ∙ silent) in
+    let (was, same) = nothing_came_published r published publishes (sym before ∙ sym then ∙ silent) in
     let whole : a ≡ with_net net (reaching_to reaches.reach r) = hashed ∙ ap (with_net net) (reaches.gives ∙ ap (reaching_to reaches.reach) same) in
     record {
       published = was;

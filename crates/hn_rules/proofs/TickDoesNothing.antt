@@ -1,15 +1,15 @@
 -- A tick does nothing if and only if each part of it leaves the router as it is.
 use Rattle.hn_base.proofs.Names.{◌≡◌, ◌∙◌, ◌↔◌, ℕ, ◌-◌, ◌^◌, ◌<◌, ◌≤◌, ◌+◌, Bool, true, false, List, [], ◌∷◌, ◌++◌, map, filter, nat_lt, Option, Some, None, refl, sym, ap, subst, arith, All, list_any}
 use Rattle.hn_base.proofs.Names.{option_map_or, or_parts, lt-leb, IsStrictlySortedBy, All-contains, All-filter, node_cmp, Begins}
-use Rattle.hn_rules.proofs.Names.{nat_le, Contains, all_of, NodeId, Held, Entry, IsPortStill, IsIdleAt, PackingIsNotEmpty, StillPortIsIdle, IsReachable, NoneEnds, links_of, delegated_after}
+use Rattle.hn_rules.proofs.Names.{nat_le, Contains, all_of, NodeId, Held, Entry, IsPortUndue, IsIdleAt, PackingIsNotEmpty, UnduePortIsIdle, IsReachable, NoneEnds, links_of, delegated_after}
 use Rattle.hn_rules.proofs.Names.{has_ended_one, ArePorts, OwnItems, OwnPrefix, is_among, is_forgotten, lost_after, loss_marked, marked_node, remembered, Nodes, HeldNode, Done, Running, State}
-use Rattle.hn_rules.proofs.Names.{IsRunAssigned, IsAssigning, ending, nothing, IsLeft, StillStays, NextDueStays, held_entry, own_entry, held_entries, nodes_of, IsReach, own_items, IsPublished}
+use Rattle.hn_rules.proofs.Names.{IsRunAssigned, IsAssigning, ending, nothing, IsLeft, UndueStays, NextDueStays, held_entry, own_entry, held_entries, nodes_of, IsReach, own_items, IsPublished}
 use Rattle.hn_rules.proofs.Names.{IsRefresh, IsRouter, IsSole, begun_at, at_moment, AreHeard, IsExpiry, forgetting, IsPortsTick, IsTick}
 use Rattle.hn_assign.specs.declared.held.Ran.{Ran as Assigned}
 use Rattle.hn_store.specs.Laws.{NoneIsForgotten}
 use Rattle.hn_rules.specs.Idle.{IsIdleTick}
-use Rattle.hn_rules.specs.Laws.{StillIsIdle, IdleIsStill, SilentTickIsStill, IdleUntilDue}
-use Rattle.hn_rules.specs.Still.{IsStill}
+use Rattle.hn_rules.specs.Laws.{UndueIsIdle, IdleIsUndue, TickOfNothingIsUndue, IdleUntilDue}
+use Rattle.hn_rules.specs.Undue.{IsRouterUndue}
 use Rattle.hn_rules.proofs.AssignRuns.{run_seen}
 use Rattle.hn_rules.proofs.Forgetting.{IsMarked, stays}
 use Rattle.hn_rules.proofs.RefreshChangesNothing.{marks_same, same_refresh}
@@ -18,26 +18,26 @@ use Rattle.hn_rules.proofs.Refreshes.{refreshed-later, seen_marked}
 use Rattle.hn_rules.proofs.ExactTicks.{exact_expiry}
 use Rattle.hn_rules.proofs.PortsInTurn.{with_ports}
 use Rattle.hn_rules.proofs.NoPeerExpired.{none_expired, expiry_ports}
-use Rattle.hn_rules.proofs.SilentPorts.{all_idle, ticks_ports}
-use Rattle.hn_rules.proofs.Silences.{Silent, none_after, seen_again, silent_refresh, silent_walk}
+use Rattle.hn_rules.proofs.PortsOfNothing.{all_idle, ticks_ports}
+use Rattle.hn_rules.proofs.Silences.{CameToNothing, none_after, seen_again, refresh_of_nothing, nothing_came_walk}
 use Rattle.hn_rules.proofs.Walk.{assigning_walk, ports_walk}
 
 -- the laws of the crates below that they stand on
-pub record StillLaws : Type 0 where
+pub record UndueLaws : Type 0 where
   pub ending : NoneEnds
   pub forgetting : NoneIsForgotten
-  pub port : StillPortIsIdle
+  pub port : UnduePortIsIdle
 
 pub record IdleLaws : Type 0 where
   pub one_order : (xs ys : List NodeId) → IsStrictlySortedBy node_cmp xs → IsStrictlySortedBy node_cmp ys → ((x : NodeId) → Contains xs x ↔ Contains ys x) → xs ≡ ys
   pub ending : NoneEnds
   pub forgetting : NoneIsForgotten
-  pub port : StillPortIsIdle
+  pub port : UnduePortIsIdle
   pub packing : PackingIsNotEmpty
 
 -- ---- each part leaves the router as it is: the tick does nothing
 
-module _ (laws : StillLaws) (s : State) (now : ℕ) (router : IsRouter s) (begun : s.moment ≤ now) (still : IsStill now s) where
+module _ (laws : UndueLaws) (s : State) (now : ℕ) (router : IsRouter s) (begun : s.moment ≤ now) (still : IsRouterUndue now s) where
   abbrev r : Running
   r = begun_at now s
 
@@ -53,14 +53,14 @@ module _ (laws : StillLaws) (s : State) (now : ℕ) (router : IsRouter s) (begun
   assigns : IsAssigning r r
   assigns = record { ran = record { held = s.held; words = [] }; is_assigned = still.rests; gives = refl }
 
-  still_tick : IsIdleTick now s
-  still_tick =
+  undue_tick : IsIdleTick now s
+  undue_tick =
       let expires = none_expire_at r router.well.ports still.heard in
       let ticks = ports_rest laws.port r router.well.ports still.silent in
       (r, (r, (r, expires, (r, ends, refreshes)), (r, forgets, (r, (r, assigns, refreshes), ticks))), refl, refl)
 
-pub still_idle : StillLaws → StillIsIdle
-still_idle laws s now router begun still = still_tick laws s now router begun still
+pub undue_idle : UndueLaws → UndueIsIdle
+undue_idle laws s now router begun still = undue_tick laws s now router begun still
 
 -- ---- a tick that does nothing: each part left the router as it is
 
@@ -156,7 +156,7 @@ module _ (laws : IdleLaws) (s : State) (now : ℕ) (router : IsRouter s) (begun 
   -- ---- a tick of which nothing came
 
   -- what its parts did
-  record IsSilentTick (after : Running) : Type 0 where
+  record IsTickOfNothing (after : Running) : Type 0 where
     heard : AreHeard now s
     lasting : has_ended_one now s.delegated ≡ false
     young : now - s.own.born < 2 ^ 32 - 2 ^ 16
@@ -173,15 +173,15 @@ module _ (laws : IdleLaws) (s : State) (now : ℕ) (router : IsRouter s) (begun 
     settled_is : settled.state ≡ seen_again again net_again (assigned reach net ran.held)
     ticks : IsPortsTick settled after
 
-  silent_tick : (after : Running) → IsTick start after → Silent after → IsSilentTick after
-  silent_tick after (losing, (expired, expiry, (ended, ends, refreshes)), (forgetful, forgets, (settled, (settling, assigns, again), ticks))) silent =
+  tick_of_nothing : (after : Running) → IsTick start after → CameToNothing after → IsTickOfNothing after
+  tick_of_nothing after (losing, (expired, expiry, (ended, ends, refreshes)), (forgetful, forgets, (settled, (settling, assigns, again), ticks))) silent =
       let ran = assigns.ran in
-      let settled_silent : Silent settled = silent_walk IsPortsTick (λ P each. ports_walk [] P each) settled after ticks silent in
-      let last = silent_refresh settling settled again settled_silent in
-      let settling_silent : Silent settling = sym last.done ∙ settled_silent in
-      let forgetful_silent : Silent forgetful = silent_walk IsAssigning (λ P each. assigning_walk [] P each) forgetful settling assigns settling_silent in
-      let losing_silent : Silent losing = sym (ap (λ (x : Running). x.done) forgets) ∙ forgetful_silent in
-      let first = silent_refresh ended losing refreshes losing_silent in
+      let settled_nothing_came : CameToNothing settled = nothing_came_walk IsPortsTick (λ P each. ports_walk [] P each) settled after ticks silent in
+      let last = refresh_of_nothing settling settled again settled_nothing_came in
+      let settling_nothing_came : CameToNothing settling = sym last.done ∙ settled_nothing_came in
+      let forgetful_nothing_came : CameToNothing forgetful = nothing_came_walk IsAssigning (λ P each. assigning_walk [] P each) forgetful settling assigns settling_nothing_came in
+      let losing_nothing_came : CameToNothing losing = sym (ap (λ (x : Running). x.done) forgets) ∙ forgetful_nothing_came in
+      let first = refresh_of_nothing ended losing refreshes losing_nothing_came in
       let kept = kept_by expired ended expiry ends first.published in
       let lost_is : losing.state ≡ lost first.reach first.net = first.gives ∙ ap (λ (x : Running). seen_again first.reach first.net x.state) kept.same in
       let state_forgot : forgetful.state ≡ forgot first.reach first.net =
@@ -197,7 +197,7 @@ module _ (laws : IdleLaws) (s : State) (now : ℕ) (router : IsRouter s) (begun 
         first = subst (λ (x : Running). IsReach x.state first.reach) kept.same first.is_reach;
         ran = ran;
         is_assigned = subst (λ (x : State). IsRunAssigned x ran) state_forgot assigns.is_assigned;
-        untaken = none_after forgetful.done.words ran.words (sym (ap (λ (x : Running). x.done.words) assigns.gives) ∙ ap (λ (d : Done). d.words) settling_silent);
+        untaken = none_after forgetful.done.words ran.words (sym (ap (λ (x : Running). x.done.words) assigns.gives) ∙ ap (λ (d : Done). d.words) settling_nothing_came);
         again = last.reach;
         net_again = last.net;
         second = subst (λ (x : State). IsReach x last.reach) state_assigned last.is_reach;
@@ -207,12 +207,13 @@ module _ (laws : IdleLaws) (s : State) (now : ℕ) (router : IsRouter s) (begun 
       }
 
   -- what it leaves, but for the endpoints
-  leaves : (after : Running) (parts : IsSilentTick after) → after.state ≡ record (seen_again parts.again parts.net_again (assigned parts.reach parts.net parts.ran.held)) { ports = after.state.ports }
+  leaves : (after : Running) (parts : IsTickOfNothing after) → after.state ≡ record (seen_again parts.again parts.net_again (assigned parts.reach parts.net parts.ran.held))
+      { ports = after.state.ports }
   leaves after parts = ticks_ports parts.settled after parts.ticks ∙ ap (λ (x : State). let y : State = record x { ports = after.state.ports } in y) parts.settled_is
 
   -- ---- where all is as it was in the end
 
-  still_by : (after : Running) → IsSilentTick after → Silent after → after.state ≡ at_moment now s → IsStill now s
+  still_by : (after : Running) → IsTickOfNothing after → CameToNothing after → after.state ≡ at_moment now s → IsRouterUndue now s
   still_by after parts silent same =
       let whole = sym (leaves after parts) ∙ same in
       let again_is : parts.again ≡ s.reach = ap (λ (x : State). x.reach) whole in
@@ -236,7 +237,7 @@ module _ (laws : IdleLaws) (s : State) (now : ℕ) (router : IsRouter s) (begun 
         reached = reached parts.reach parts.net parts.ran.held parts.again parts.first parts.second again_is seen;
         kept = (laws.forgetting now s.table).0 (ap (λ (nodes : List HeldNode). let t : Nodes = record s.table { entries = nodes } in t) remains);
         rests = rests parts.reach parts.net parts.ran.held parts.again parts.first parts.second again_is seen remains parts.ran parts.is_assigned (ap (λ (x : State). x.held) whole) parts.untaken;
-        silent = all_of (IsPortStill now) s.ports (λ port there. (laws.port now port).1 (All-contains (IsIdleAt now) s.ports port idle_here there));
+        silent = all_of (IsPortUndue now) s.ports (λ port there. (laws.port now port).1 (All-contains (IsIdleAt now) s.ports port idle_here there));
       }
 
   -- ---- where some parts are as they were
@@ -256,10 +257,10 @@ module _ (laws : IdleLaws) (s : State) (now : ℕ) (router : IsRouter s) (begun 
       let more = none_marked reach nodes both.1 in
       rw (here, more) refl
 
-  pub still_from : (after : Running) → IsTick start after → Silent after → after.state.reach ≡ s.reach → after.state.held ≡ s.held → list_any (is_forgotten now) s.table.entries ≡ false
-      → All (IsPortStill now) s.ports → IsStill now s
-  still_from after tick silent same_reach same_held none still_ports =
-      let parts = silent_tick after tick silent in
+  pub still_from : (after : Running) → IsTick start after → CameToNothing after → after.state.reach ≡ s.reach → after.state.held ≡ s.held → list_any (is_forgotten now) s.table.entries ≡ false
+      → All (IsPortUndue now) s.ports → IsRouterUndue now s
+  still_from after tick silent same_reach same_held none undue_ports =
+      let parts = tick_of_nothing after tick silent in
       let whole = leaves after parts in
       let found : after.state.reach ≡ parts.again = ap (λ (x : State). x.reach) whole in
       let holds : after.state.held ≡ parts.ran.held = ap (λ (x : State). x.held) whole in
@@ -277,47 +278,47 @@ module _ (laws : IdleLaws) (s : State) (now : ℕ) (router : IsRouter s) (begun 
         reached = reached parts.reach parts.net parts.ran.held parts.again parts.first parts.second again_is seen;
         kept = none;
         rests = rests parts.reach parts.net parts.ran.held parts.again parts.first parts.second again_is seen remains parts.ran parts.is_assigned held_is parts.untaken;
-        silent = still_ports;
+        silent = undue_ports;
       }
 
-pub idle_still : IdleLaws → IdleIsStill
-idle_still laws s now router begun (after, tick, same, silent) =
-    still_by laws s now router begun after (silent_tick laws s now router begun after tick silent) silent same
+pub idle_undue : IdleLaws → IdleIsUndue
+idle_undue laws s now router begun (after, tick, same, silent) =
+    still_by laws s now router begun after (tick_of_nothing laws s now router begun after tick silent) silent same
 
-pub silent_still : IdleLaws → SilentTickIsStill
-silent_still laws s now after router begun tick silent left = still_from laws s now router begun after tick silent left.reach left.held left.kept left.silent
+pub nothing_came_undue : IdleLaws → TickOfNothingIsUndue
+nothing_came_undue laws s now after router begun tick silent left = still_from laws s now router begun after tick silent left.reach left.held left.kept left.silent
 
 -- ---- a tick that ran
 
 -- over no words a tick has one result
-pub one_tick : IsSole IsTick → (r a b : Running) → IsTick r a → IsTick r b → Silent a → Silent b → a ≡ b
-one_tick sole r a b h k silent_a silent_b =
-    let words_a : a.done.words ≡ [] = ap (λ (d : Done). d.words) silent_a in
-    let words_b : b.done.words ≡ [] = ap (λ (d : Done). d.words) silent_b in
+pub one_tick : IsSole IsTick → (r a b : Running) → IsTick r a → IsTick r b → CameToNothing a → CameToNothing b → a ≡ b
+one_tick sole r a b h k nothing_came_a nothing_came_b =
+    let words_a : a.done.words ≡ [] = ap (λ (d : Done). d.words) nothing_came_a in
+    let words_b : b.done.words ≡ [] = ap (λ (d : Done). d.words) nothing_came_b in
     let stream : ℕ → ℕ = λ i. 0 in
     let none : Begins [] stream = λ i less. absurd (omega arith) in
     sole.one stream r a b h k (subst (λ (words : List ℕ). Begins words stream) (sym words_a) none) (subst (λ (words : List ℕ). Begins words stream) (sym words_b) none)
 
 -- so one that ran where each part leaves the router as it is did nothing
-pub ran_idle : StillIsIdle → IsSole IsTick → (s : State) (now : ℕ) (after : Running) → IsRouter s → s.moment ≤ now → IsTick (begun_at now s) after
-    → after.done ≡ nothing → IsStill now s → after.state ≡ at_moment now s
+pub ran_idle : UndueIsIdle → IsSole IsTick → (s : State) (now : ℕ) (after : Running) → IsRouter s → s.moment ≤ now → IsTick (begun_at now s) after
+    → after.done ≡ nothing → IsRouterUndue now s → after.state ≡ at_moment now s
 ran_idle is_idle sole s now after router begun tick silent still =
-    let (other, other_tick, same, other_silent) = is_idle s now router begun still in
-    ap (λ (r : Running). r.state) (one_tick sole (begun_at now s) after other tick other_tick silent other_silent) ∙ same
+    let (other, other_tick, same, other_nothing_came) = is_idle s now router begun still in
+    ap (λ (r : Running). r.state) (one_tick sole (begun_at now s) after other tick other_tick silent other_nothing_came) ∙ same
 
-pub is_idle_where_left : StillIsIdle → IdleIsStill → SilentTickIsStill → IsSole IsTick → (s : State) (now : ℕ) (after : Running) → IsRouter s
+pub is_idle_where_left : UndueIsIdle → IdleIsUndue → TickOfNothingIsUndue → IsSole IsTick → (s : State) (now : ℕ) (after : Running) → IsRouter s
     → s.moment ≤ now → IsTick (begun_at now s) after → after.done ≡ nothing
     → IsLeft now s after.state ↔ ((after.state ≡ at_moment now s) × (after.done ≡ nothing))
-is_idle_where_left is_idle is_still silent_is_still sole s now after router begun tick silent = (
-  λ left. (ran_idle is_idle sole s now after router begun tick silent (silent_is_still s now after router begun tick silent left), silent),
-  λ (same, _). let still = is_still s now router begun (after, tick, same, silent) in
+is_idle_where_left is_idle is_router_undue nothing_came_is_undue sole s now after router begun tick silent = (
+  λ left. (ran_idle is_idle sole s now after router begun tick silent (nothing_came_is_undue s now after router begun tick silent left), silent),
+  λ (same, _). let still = is_router_undue s now router begun (after, tick, same, silent) in
       record { reach = ap (λ (x : State). x.reach) same; held = ap (λ (x : State). x.held) same; kept = still.kept; silent = still.silent },
 )
 
 -- ---- until something is due
 
-pub idle_until : StillIsIdle → IdleIsStill → StillStays → NextDueStays → IdleUntilDue
-idle_until is_idle is_still stays_still stays_due s later due router begun before idle next =
-    let still = is_still s s.moment router (omega arith) idle in
+pub idle_until : UndueIsIdle → IdleIsUndue → UndueStays → NextDueStays → IdleUntilDue
+idle_until is_idle is_router_undue stays_still stays_due s later due router begun before idle next =
+    let still = is_router_undue s s.moment router (omega arith) idle in
     let still_later = stays_still s s.moment later router (omega arith) begun still (λ m is after. let first = next.least m is after in omega (arith, first, before)) in
     (is_idle s later router begun still_later, stays_due s s.moment later due router (omega arith) begun before next)

@@ -10,7 +10,7 @@ use Rattle.hn_rules.proofs.AnswerTlvs.{network_tlv}
 use Rattle.hn_rules.proofs.AtPorts.{found_id}
 use Rattle.hn_rules.proofs.Leads.{Keeps, keeps_each, keeps_each_of, keeps_option}
 use Rattle.hn_rules.proofs.Endpoints.{ports_stand}
-use Rattle.hn_rules.proofs.SilentPorts.{ticks_ports}
+use Rattle.hn_rules.proofs.PortsOfNothing.{ticks_ports}
 
 -- ---- before the endpoints' turn nothing is sent
 

@@ -4,14 +4,14 @@ use Rattle.hn_base.proofs.Names.{leb-false, ne_eqb, PlainPrefix}
 use Rattle.hn_rules.proofs.Names.{nat_le, slice_get, Contains-map, Contains-from_map, any_from, contains_at, part_at, part_stands, NodeId, PlainView, IsPreferred, remaining, IsAnnouncedPrefix}
 use Rattle.hn_rules.proofs.Names.{AreUsable, IsUnwanted, prefixes_of, Delegated, has_ended, seconds_left, links_of, PlainData, has_ended_one, ArePorts, endpoints_of, OwnItems, OwnPrefix, marked_node}
 use Rattle.hn_rules.proofs.Names.{HeldNode, Running, State, KeepsRouter, RouterStaysLater, RefreshMakesRouter, AssigningKeeps, held_entry, own_items, network_state_hash, IsPortReset, IsPublishing}
-use Rattle.hn_rules.proofs.Names.{IsHashing, IsRefresh, IsUntouched, IsFresh, IsRouter, AtPort, seen_by, at_moment, IsUneventful, forgetting, IsPortTick, IsPortsTick, IsTick}
+use Rattle.hn_rules.proofs.Names.{IsHashing, IsRefresh, IsUntouched, IsJustRefreshed, IsRouter, AtPort, seen_by, at_moment, IsKeptUndue, forgetting, IsPortTick, IsPortsTick, IsTick}
 use Rattle.hn_deleg.specs.Candidates.{SameCandidatesSameUsed, PreferredIsAnnounced, PreferredWasSo}
-use Rattle.hn_rules.specs.Rested.{UsedWhereAssigned}
+use Rattle.hn_rules.specs.KeptAtRest.{UsedWhereAssigned}
 use Rattle.hn_rules.proofs.Announcing.{AnnouncingLaws, AreTwins, Lives, candidate_too, preferred_too}
-use Rattle.hn_rules.proofs.NothingKeptIsDue.{CalmLaws, start, forgot, nothing_lost, fresh_forgot, same_view}
+use Rattle.hn_rules.proofs.NothingKeptIsDue.{CalmLaws, start, forgot, nothing_lost, refreshed_forgot, same_view}
 use Rattle.hn_rules.proofs.SeenWhileTimePasses.{view_later}
 use Rattle.hn_rules.proofs.Leads.{keeps_each}
-use Rattle.hn_rules.proofs.Refreshes.{Kept, kept_self, keeps_kept_at, fresh_refresh, fresh_untouched, reset_keeps, tick_keeps, untouched_same}
+use Rattle.hn_rules.proofs.Refreshes.{Kept, kept_self, keeps_kept_at, refreshed_refresh, refreshed_untouched, reset_keeps, tick_keeps, untouched_same}
 
 -- ---- lifetimes
 
@@ -104,7 +104,7 @@ pub record UsedLaws : Type 0 where
   pub refreshing : RefreshMakesRouter
   pub ticking : KeepsRouter IsPortsTick
 
-module _ (laws : UsedLaws) (s : State) (now : ℕ) (router : IsRouter s) (begun : s.moment ≤ now) (quiet : IsUneventful now s) where
+module _ (laws : UsedLaws) (s : State) (now : ℕ) (router : IsRouter s) (begun : s.moment ≤ now) (quiet : IsKeptUndue now s) where
   abbrev before : State
   before = forgot laws.calm s now router begun quiet
 
@@ -113,13 +113,13 @@ module _ (laws : UsedLaws) (s : State) (now : ℕ) (router : IsRouter s) (begun 
       let r = start laws.calm s now router begun quiet in
       laws.forgetting r (forgetting r) refl (laws.later now s router begun)
 
-  before_fresh : IsFresh before
-  before_fresh = fresh_forgot laws.calm s now router begun quiet
+  before_refreshed : IsJustRefreshed before
+  before_refreshed = refreshed_forgot laws.calm s now router begun quiet
 
   -- what a tick leaves, as far as others and the router itself see it announced
   record IsAfter (after : State) : Type 0 where
     pub router_is : IsRouter after
-    pub fresh : IsFresh after
+    pub fresh : IsJustRefreshed after
     pub id : after.id ≡ s.id
     pub moment : after.moment ≡ now
     pub links : after.own.items.links ≡ s.own.items.links
@@ -138,7 +138,7 @@ module _ (laws : UsedLaws) (s : State) (now : ℕ) (router : IsRouter s) (begun 
       let assigned_well = laws.assigning forgetful assigned assigns forgetful_router in
       let refresh : IsRefresh assigned settled = (published, publishes, (reached, reaches, hashing)) in
       let settled_router = laws.refreshing assigned settled refresh assigned_well in
-      let settled_fresh = fresh_refresh assigned settled refresh assigned_well.ports in
+      let settled_refreshed = refreshed_refresh assigned settled refresh assigned_well.ports in
       let ticked = ticks_leave settled after settled_router.well.ports ticks in
       let from = published_from assigned published publishes in
       let published_is : published.state ≡ record before { held = assigns.ran.held; number = published.state.number; own = published.state.own } =
@@ -153,7 +153,7 @@ module _ (laws : UsedLaws) (s : State) (now : ℕ) (router : IsRouter s) (begun 
       let own_is : after.state.own ≡ published.state.own = ap (λ (x : State). x.own) whole ∙ ap (λ (x : State). x.own) reached_is in
       record {
         router_is = laws.ticking settled after ticks settled_router;
-        fresh = fresh_untouched settled.state after.state ticked settled_fresh;
+        fresh = refreshed_untouched settled.state after.state ticked settled_refreshed;
         id = ap (λ (x : State). x.id) whole ∙ ap (λ (x : State). x.id) reached_is ∙ ap (λ (x : State). x.id) published_is;
         moment = ap (λ (x : State). x.moment) whole ∙ ap (λ (x : State). x.moment) reached_is ∙ ap (λ (x : State). x.moment) published_is;
         links = ap (λ (x : PlainData). x.items.links) own_is ∙ by_links assigned.state published.state (ap (λ (x : State). x.own) assigned_is) (ap (λ (x : State). x.ports) assigned_is) from.when;
@@ -184,8 +184,8 @@ module _ (laws : UsedLaws) (s : State) (now : ℕ) (router : IsRouter s) (begun 
     twins = record {
       router = before_router;
       other_router = is.router_is;
-      fresh = before_fresh;
-      other_fresh = is.fresh;
+      fresh = before_refreshed;
+      other_refreshed = is.fresh;
       id = is.id;
       moment = is.moment;
       links = is.links;
@@ -203,7 +203,7 @@ module _ (laws : UsedLaws) (s : State) (now : ℕ) (router : IsRouter s) (begun 
       router = is.router_is;
       other_router = before_router;
       fresh = is.fresh;
-      other_fresh = before_fresh;
+      other_refreshed = before_refreshed;
       id = sym is.id;
       moment = sym is.moment;
       links = sym is.links;

@@ -1,13 +1,13 @@
 -- A tick that does nothing.
 use Rattle.std.specs.Prelude.{◌≡◌, ℕ, false, All}
 use Rattle.std.specs.List.{list_any}
-use Rattle.hn_dncp.specs.Due.{IsPortStill}
+use Rattle.hn_dncp.specs.Due.{IsPortUndue}
 use Rattle.hn_store.specs.Loss.{is_forgotten}
 use Rattle.hn_rules.specs.declared.running.Running.{Running}
 use Rattle.hn_rules.specs.declared.state.State.{State}
 use Rattle.hn_rules.specs.Done.{nothing}
 use Rattle.hn_rules.specs.Rules.{begun_at}
-use Rattle.hn_rules.specs.Still.{at_moment}
+use Rattle.hn_rules.specs.Undue.{at_moment}
 use Rattle.hn_rules.specs.Ticks.{IsTick}
 
 -- A tick at that moment does nothing: nothing comes of it, and but for the moment the router is as it was.
@@ -20,4 +20,4 @@ pub record IsLeft (now : ℕ) (before after : State) : Type 0 where
   pub reach : after.reach ≡ before.reach
   pub held : after.held ≡ before.held
   pub kept : list_any (is_forgotten now) before.table.entries ≡ false
-  pub silent : All (IsPortStill now) before.ports
+  pub silent : All (IsPortUndue now) before.ports

@@ -52,7 +52,7 @@ use Rattle.hn_rules.specs.Router.{IsWell, IsHashed, IsRouter}
 use Rattle.hn_rules.specs.Rules.{Rule, IsTotal, begun_at}
 use Rattle.hn_rules.specs.Seen.{seen_by}
 use Rattle.hn_rules.specs.Spelled.{AreOfBytes}
-use Rattle.hn_rules.specs.Still.{at_moment, IsUneventful, IsStill}
+use Rattle.hn_rules.specs.Undue.{at_moment, IsKeptUndue, IsRouterUndue}
 use Rattle.hn_rules.specs.Ticks.{IsTick}
 
 -- ---- what a router is
@@ -131,29 +131,29 @@ NextDueStays =
     → IsNextDue (at_moment now s) due → IsNextDue (at_moment later s) due
 
 -- While nothing that a router keeps or holds comes to its moment, the same nodes are reachable.
-abbrev pub UneventfulReaches : Type 0
-UneventfulReaches = (s : State) (now : ℕ) → IsRouter s → s.moment ≤ now → IsUneventful now s → IsReach (at_moment now s) s.reach
+abbrev pub KeptUndueReaches : Type 0
+KeptUndueReaches = (s : State) (now : ℕ) → IsRouter s → s.moment ≤ now → IsKeptUndue now s → IsReach (at_moment now s) s.reach
 
 -- Where each part of a tick leaves a router as it is, it does so until something is due.
-abbrev pub StillStays : Type 0
-StillStays =
-    (s : State) (now later : ℕ) → IsRouter s → s.moment ≤ now → now ≤ later → IsStill now s
+abbrev pub UndueStays : Type 0
+UndueStays =
+    (s : State) (now later : ℕ) → IsRouter s → s.moment ≤ now → now ≤ later → IsRouterUndue now s
     → ((m : ℕ) → IsDueAt (at_moment now s) m → now < m → later < m)
-    → IsStill later s
+    → IsRouterUndue later s
 
 -- Where each part of a tick leaves a router as it is, the tick does nothing.
-abbrev pub StillIsIdle : Type 0
-StillIsIdle = (s : State) (now : ℕ) → IsRouter s → s.moment ≤ now → IsStill now s → IsIdleTick now s
+abbrev pub UndueIsIdle : Type 0
+UndueIsIdle = (s : State) (now : ℕ) → IsRouter s → s.moment ≤ now → IsRouterUndue now s → IsIdleTick now s
 
 -- Where a tick does nothing, each part of it left the router as it is.
-abbrev pub IdleIsStill : Type 0
-IdleIsStill = (s : State) (now : ℕ) → IsRouter s → s.moment ≤ now → IsIdleTick now s → IsStill now s
+abbrev pub IdleIsUndue : Type 0
+IdleIsUndue = (s : State) (now : ℕ) → IsRouter s → s.moment ≤ now → IsIdleTick now s → IsRouterUndue now s
 
 -- Where nothing came of a tick that ran, and it left these parts as they were, each part of it left the router as it is.
-abbrev pub SilentTickIsStill : Type 0
-SilentTickIsStill =
+abbrev pub TickOfNothingIsUndue : Type 0
+TickOfNothingIsUndue =
     (s : State) (now : ℕ) (after : Running) → IsRouter s → s.moment ≤ now → IsTick (begun_at now s) after → after.done ≡ nothing
-    → IsLeft now s after.state → IsStill now s
+    → IsLeft now s after.state → IsRouterUndue now s
 
 -- Where a tick does nothing, so it is until something is due, and what is next due stays.
 abbrev pub IdleUntilDue : Type 0

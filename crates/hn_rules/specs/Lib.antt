@@ -20,13 +20,13 @@ pub mod Tick
 pub mod Ticks
 pub mod Updates
 pub mod Due
-pub mod Still
+pub mod Undue
 pub mod Idle
 pub mod KnownReach
 pub mod Events
 pub mod Changes
 pub mod Router
-pub mod Rested
+pub mod KeptAtRest
 pub mod Grows
 pub mod Lengths
 pub mod Genuine

@@ -110,7 +110,7 @@ pub record IsRefreshed (s : State) : Type 0 where
 
 -- What a refresh makes, at the moment of the refresh: the same nodes are reachable, and the own node data are young. So
 -- another refresh changes nothing.
-pub record IsFresh (s : State) : Type 0 where
+pub record IsJustRefreshed (s : State) : Type 0 where
   pub refreshed : IsRefreshed s
   pub reached : IsReach s s.reach
   pub young : s.moment - s.own.born < 2 ^ 32 - 2 ^ 16

@@ -8,7 +8,7 @@ ghost use Rattle.hn_base.specs.Rules.{Then};
 ghost use Rattle.hn_rules.specs.Rules.{Ran};
 ghost use Rattle.hn_rules.specs.KnownReach.{KnowsReach};
 ghost use Rattle.hn_rules.specs.Refresh.{IsRefresh};
-ghost use Rattle.hn_rules.specs.Router.{IsRefreshed, IsFresh, IsUntouched};
+ghost use Rattle.hn_rules.specs.Router.{IsRefreshed, IsJustRefreshed, IsUntouched};
 ghost use Rattle.hn_rules.specs.Arrival.{IsItemRule, IsTlvRule, IsTlvs, IsAnswering, IsArrival};
 
 use crate::answers::Answer;
@@ -126,10 +126,10 @@ impl Running {
         draw: &mut D,
     ) -> Result<(), NoMemory>
         requires refreshed { IsRefreshed self.old.state }
-        requires fresh { fresh ≡ true → IsFresh self.old.state }
+        requires fresh { fresh ≡ true → IsJustRefreshed self.old.state }
         ensures ran { OnOk result (Ran (Then (IsTlvRule from.now (plain tlv.now)) IsRefresh)
             (D.words draw.old) (D.words draw.new) self.old self.new) }
-        ensures fresh { OnOk result (IsFresh self.new.state) }
+        ensures fresh { OnOk result (IsJustRefreshed self.new.state) }
     {
         let touched = self.tlv(alloc, from, tlv, draw)?;
         if fresh && !touched.any {

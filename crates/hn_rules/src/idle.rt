@@ -5,10 +5,10 @@ ghost use Rattle.hn_rules.specs.Done.{nothing};
 ghost use Rattle.hn_rules.specs.Idle.{IsLeft};
 ghost use Rattle.hn_rules.specs.Router.{IsRouter};
 ghost use Rattle.hn_rules.specs.Rules.{begun_at};
-ghost use Rattle.hn_rules.specs.Still.{at_moment};
+ghost use Rattle.hn_rules.specs.Undue.{at_moment};
 ghost use Rattle.hn_rules.specs.Ticks.{IsTick};
 
-use crate::laws::{idle_is_still, rules_have_one_result, silent_tick_is_still, still_is_idle};
+use crate::laws::{idle_is_undue, rules_have_one_result, tick_of_nothing_is_undue, undue_is_idle};
 use crate::running::Running;
 use crate::state::State;
 use hn_assign::{Backoff, Held, same_assigned};
@@ -69,7 +69,7 @@ impl State {
         before.reaches(self.reach.get())
             && self.holds_as(before)
             && !before.table.get().needs_forget(now)
-            && before.are_ports_still(now)
+            && before.are_ports_undue(now)
     }
 }
 
@@ -81,9 +81,9 @@ impl Running {
         requires ran { IsTick (begun_at self.now.state.moment before.now) self.now }
         ensures { IsTrue result ↔ ((self.now.state ≡ at_moment self.now.state.moment before.now) × (self.now.done ≡ nothing)) }
     {
-        still_is_idle();
-        idle_is_still();
-        silent_tick_is_still();
+        undue_is_idle();
+        idle_is_undue();
+        tick_of_nothing_is_undue();
         rules_have_one_result();
         if !self.done.is_nothing() {
             return false;

@@ -15,22 +15,22 @@ ghost use Rattle.hn_rules.specs.Given.{IsPrivateLength};
 ghost use Rattle.hn_rules.specs.Events.{IsAttaching, detaching, setting_caps, setting_private, setting_addresses, IsRestarting};
 ghost use Rattle.hn_rules.specs.Laws.{HashIsOfLeaves, AssignedIsPublished, ItemsArePublished, OwnVersionIsSaid, OwnAddressesAreSaid};
 ghost use Rattle.hn_rules.specs.Laws.{ViewIsNetwork, OwnPeersAreOfEndpoints, PrivatePostIsAlone, EntriesAreAsKnown, RouterStaysLater};
-ghost use Rattle.hn_rules.specs.Laws.{NextDueIsOne, NextDueStays, UneventfulReaches, StillStays, KeepsRouter, KeepsWell, KeepsEndpoints};
+ghost use Rattle.hn_rules.specs.Laws.{NextDueIsOne, NextDueStays, KeptUndueReaches, UndueStays, KeepsRouter, KeepsWell, KeepsEndpoints};
 ghost use Rattle.hn_rules.specs.Laws.{RefreshMakesRouter, AssigningKeeps, DelegatingKeeps, AttachingKeeps, AddressingKeeps, MakesChanges};
 ghost use Rattle.hn_rules.specs.Laws.{DelegatingMakesChanges, AddressingMakesChanges, ChangesKeepWell, ChangesKeepLimit, ChangesOnlyAdd};
-ghost use Rattle.hn_rules.specs.Laws.{StillIsIdle, IdleIsStill, IdleUntilDue, RefreshRests, RouterIsHashed, ChangesKeepHashed};
-ghost use Rattle.hn_rules.specs.Laws.{ChangesKeepShort, ChangesKeepBytes, ChangesKeepGenuine, SilentTickIsStill, HasAResult};
+ghost use Rattle.hn_rules.specs.Laws.{UndueIsIdle, IdleIsUndue, IdleUntilDue, RefreshRests, RouterIsHashed, ChangesKeepHashed};
+ghost use Rattle.hn_rules.specs.Laws.{ChangesKeepShort, ChangesKeepBytes, ChangesKeepGenuine, TickOfNothingIsUndue, HasAResult};
 ghost use Rattle.hn_rules.specs.Laws.{ArrivalHasAResult, AssigningHasAResult, WishesExist};
 ghost use Rattle.hn_rules.specs.Refresh.{IsRefresh};
-ghost use Rattle.hn_rules.specs.Rested.{KeepsId, RestfulTick, UsedWhereAssigned, ViewOfLater};
+ghost use Rattle.hn_rules.specs.KeptAtRest.{KeepsId, CalmTick, UsedWhereAssigned, ViewOfLater};
 ghost use Rattle.hn_rules.specs.Router.{IsRouter, IsWell};
 ghost use Rattle.hn_rules.specs.Rules.{IsExactRule, IsSole};
 ghost use Rattle.hn_rules.specs.Tick.{IsExpiry, forgetting, IsPortsTick};
 ghost use Rattle.hn_rules.specs.Ticks.{IsTick};
-ghost use Rattle.hn_rules.specs.Updates.{PeersAreAttached, PeersUpdatesPass, TicksSendUpdates, OwnIntervalIsDefault, RestfulTickLeavesAges, RestfulTickMovesPorts, TicksHaveSent};
+ghost use Rattle.hn_rules.specs.Updates.{PeersAreAttached, PeersUpdatesPass, TicksSendUpdates, OwnIntervalIsDefault, CalmTickLeavesAges, CalmTickMovesPorts, TicksHaveSent};
 
 use hn_assign::{
-    pairs_are_ordered, still_run_stays, subroutine_has_a_result, subroutine_has_one_result,
+    idle_run_stays, pairs_are_ordered, subroutine_has_a_result, subroutine_has_one_result,
     subroutine_keeps, subroutine_leaves,
 };
 use hn_base::{NodeId, ascending_is_unique};
@@ -41,7 +41,7 @@ use hn_deleg::{
 };
 use hn_dncp::{
     packing_exists, packing_is_not_empty, packing_is_read, packing_is_short, packing_is_unique,
-    peers_stay, still_port, still_port_stays,
+    peers_stay, undue_port, undue_port_stays,
 };
 use hn_graph::{own_is_reachable, reachability_follows, reachability_stays, reachable_is_a_node};
 use hn_hash::hash_has_eight_bytes;
@@ -176,54 +176,54 @@ pub fn next_due_stays()
 }
 
 /// While nothing that a router keeps or holds comes to its moment, the same nodes are reachable.
-pub fn uneventful_reaches()
-    ensures { UneventfulReaches }
+pub fn kept_undue_reaches()
+    ensures { KeptUndueReaches }
 {
     reachability_stays();
 }
 
 /// Where each part of a tick leaves a router as it is, it does so until something is due.
-pub fn still_stays()
-    ensures { StillStays }
+pub fn undue_stays()
+    ensures { UndueStays }
 {
     expiry_is_a_moment();
-    still_port_stays();
+    undue_port_stays();
     ending_is_a_moment();
     forgetting_is_a_moment();
     held_is_of_an_entry();
     reachability_stays();
     usable_of_later();
     common_link_of_later();
-    still_run_stays();
+    idle_run_stays();
 }
 
 /// Where each part of a tick leaves a router as it is, the tick does nothing.
-pub fn still_is_idle()
-    ensures { StillIsIdle }
+pub fn undue_is_idle()
+    ensures { UndueIsIdle }
 {
     ending_leaves();
     forgetting_leaves();
-    still_port();
+    undue_port();
 }
 
 /// Where a tick does nothing, each part of it left the router as it is.
-pub fn idle_is_still()
-    ensures { IdleIsStill }
+pub fn idle_is_undue()
+    ensures { IdleIsUndue }
 {
     ending_leaves();
     forgetting_leaves();
-    still_port();
+    undue_port();
     packing_is_not_empty();
     ascending_is_unique::<NodeId>();
 }
 
 /// Where nothing came of a tick and these parts of the router are as they were, each part of the tick left it as it is.
-pub fn silent_tick_is_still()
-    ensures { SilentTickIsStill }
+pub fn tick_of_nothing_is_undue()
+    ensures { TickOfNothingIsUndue }
 {
     ending_leaves();
     forgetting_leaves();
-    still_port();
+    undue_port();
     packing_is_not_empty();
     ascending_is_unique::<NodeId>();
 }
@@ -232,17 +232,17 @@ pub fn silent_tick_is_still()
 pub fn idle_until_due()
     ensures { IdleUntilDue }
 {
-    still_is_idle();
-    idle_is_still();
-    still_stays();
+    undue_is_idle();
+    idle_is_undue();
+    undue_stays();
     next_due_stays();
 }
 
 /// Where nothing that a router keeps has come to its moment, and the assignment subroutine would change nothing, a tick
 /// leaves what the router says of itself, its posts, the nodes that it reaches and its assignments, marks of application
 /// aside.
-pub fn restful_tick()
-    ensures { RestfulTick }
+pub fn calm_tick()
+    ensures { CalmTick }
 {
     reachability_stays();
     ending_leaves();
@@ -553,8 +553,8 @@ pub fn own_interval_is_default()
 
 /// Where nothing that a router keeps has come to its moment, a tick keeps the peers of each endpoint, with their contacts, and
 /// an endpoint that last sent at that moment sent something.
-pub fn restful_tick_moves_ports()
-    ensures { RestfulTickMovesPorts }
+pub fn calm_tick_moves_ports()
+    ensures { CalmTickMovesPorts }
 {
     reachability_stays();
     ending_leaves();
@@ -563,8 +563,8 @@ pub fn restful_tick_moves_ports()
 }
 
 /// Where nothing that a router keeps has come to its moment, a tick leaves its own delegated prefixes, and it holds no new node.
-pub fn restful_tick_leaves_ages()
-    ensures { RestfulTickLeavesAges }
+pub fn calm_tick_leaves_ages()
+    ensures { CalmTickLeavesAges }
 {
     reachability_stays();
     ending_leaves();

@@ -5,7 +5,7 @@ ghost use Rattle.hn_own.specs.Own.{AreFew};
 ghost use Rattle.hn_base.specs.Rules.{Each};
 ghost use Rattle.hn_rules.specs.Rules.{Ran, AtPort};
 ghost use Rattle.hn_rules.specs.Nodes.{age_at};
-ghost use Rattle.hn_rules.specs.Router.{IsRefreshed, IsFresh};
+ghost use Rattle.hn_rules.specs.Router.{IsRefreshed, IsJustRefreshed};
 ghost use Rattle.hn_rules.specs.KnownReach.{KnowsReach, HaveSamePeers};
 ghost use Rattle.hn_rules.specs.Refresh.{own_items, Publishes, IsPublished, IsPublishing, IsReaching, network_state_hash};
 ghost use Rattle.hn_rules.specs.Refresh.{IsPortReset, IsReset, IsHashing, IsRefresh};
@@ -58,7 +58,7 @@ impl State {
         ensures { IsTrue result
             → All (λ node. node.stored.lost ≡ None → age_at now node.stored < 2 ^ 32 - 2 ^ 15) self.now.table.entries }
     {
-        if self.table.get().is_young(now) {
+        if self.table.get().are_ages_undue(now) {
             return true;
         }
         for node in self.table.get().entries() {
@@ -71,7 +71,7 @@ impl State {
 
     /// Whether time alone makes no refresh due at a moment: the own node data are young, and paths lead on from each
     /// reachable node. Never allocates.
-    pub(crate) fn is_recent(&self, now: Moment) -> bool
+    pub(crate) fn is_refresh_undue(&self, now: Moment) -> bool
         requires { now ≤ 2 ^ 48 }
         ensures young { IsTrue result → now - self.now.own.born < 2 ^ 32 - 2 ^ 16 }
         ensures leads { IsTrue result
@@ -212,7 +212,7 @@ impl Running {
         requires { touched ≡ false → IsRefreshed self.old.state }
         ensures ran { OnOk result (Ran IsRefresh (D.words draw.old) (D.words draw.new) self.old self.new) }
         ensures refreshed { OnOk result (IsRefreshed self.new.state) }
-        ensures fresh { OnOk result (IsFresh self.new.state) }
+        ensures fresh { OnOk result (IsJustRefreshed self.new.state) }
     {
         let touched = Touched {
             any: touched,
@@ -233,13 +233,13 @@ impl Running {
         requires linked { touched.links ≡ false → KnowsReach self.old.state }
         ensures ran { OnOk result (Ran IsRefresh (D.words draw.old) (D.words draw.new) self.old self.new) }
         ensures refreshed { OnOk result (IsRefreshed self.new.state) }
-        ensures fresh { OnOk result (IsFresh self.new.state) }
+        ensures fresh { OnOk result (IsJustRefreshed self.new.state) }
     {
         reachability_stays();
         same_links_reach();
         let _kept = self.state.ports.get().as_slice();
         let now = self.state.moment.get();
-        let recent = self.state.is_recent(now);
+        let recent = self.state.is_refresh_undue(now);
         if !touched.any && recent {
             return Ok(());
         }

@@ -1,14 +1,14 @@
 //! The parts of a tick: silent peers and lost nodes go, and each endpoint sends what is due.
 
 ghost use Rattle.std.specs.Prelude.{◌≡◌, IsTrue, ◌↔◌, All, IfOk, OnOk, false, Some};
-ghost use Rattle.hn_dncp.specs.Due.{IsPortStill};
+ghost use Rattle.hn_dncp.specs.Due.{IsPortUndue};
 ghost use Rattle.hn_dncp.specs.Tick.{tick_sends};
 ghost use Rattle.hn_store.specs.Nodes.{held};
 ghost use Rattle.hn_dncp.specs.declared.port.Port.{Port};
 ghost use Rattle.hn_own.specs.Ports.{port_at};
 ghost use Rattle.hn_rules.specs.Rules.{AtPort, Ran};
 ghost use Rattle.hn_rules.specs.Router.{IsRefreshed};
-ghost use Rattle.hn_rules.specs.Still.{AreHeard};
+ghost use Rattle.hn_rules.specs.Undue.{AreHeard};
 ghost use Rattle.hn_rules.specs.Tick.{HasInterval, IsExpired, Without, IsPortExpiry, IsExpiry, forgetting, IsStateSending};
 ghost use Rattle.hn_rules.specs.Tick.{IsPortMoving, IsPortTick, IsPortsTick};
 
@@ -16,7 +16,7 @@ use crate::running::Running;
 use crate::state::State;
 use hn_base::{EpId, KEEP_ALIVE_INTERVAL, Moment, NoMemory};
 use hn_data::{encode, items_are_unique, keep_alive};
-use hn_dncp::{Neighbour, Peers, Port, pack, still_port};
+use hn_dncp::{Neighbour, Peers, Port, pack, undue_port};
 use hn_io::Draw;
 use hn_timers::expired;
 use hn_typed::Item;
@@ -82,7 +82,7 @@ impl State {
 
 impl State {
     /// Whether the keep-alives of some peer have stopped. Never allocates.
-    fn has_silent_peer(&self) -> bool
+    fn has_expired_peer(&self) -> bool
         ensures { result ≡ false → AreHeard self.now.moment self.now }
     {
         for port in self.ports.get().as_slice() {
@@ -94,14 +94,14 @@ impl State {
     }
 
     /// Whether nothing is due at any endpoint. Never allocates.
-    pub(crate) fn are_ports_still(&self, now: Moment) -> bool
-        ensures { IsTrue result ↔ All (IsPortStill now) self.now.ports }
+    pub(crate) fn are_ports_undue(&self, now: Moment) -> bool
+        ensures { IsTrue result ↔ All (IsPortUndue now) self.now.ports }
     {
         self.ports
             .get()
             .as_slice()
             .iter()
-            .all(|port| port.is_still(now))
+            .all(|port| port.is_router_undue(now))
     }
 }
 
@@ -135,7 +135,7 @@ impl Running {
         ensures untouched { IfOk result (λ touched. touched ≡ false → self.new ≡ self.old) }
     {
         let _kept = self.state.ports.get().as_slice();
-        if !self.state.has_silent_peer() {
+        if !self.state.has_expired_peer() {
             return Ok(false);
         }
         let endpoints = self.state.ports.get().endpoints(alloc)?;
@@ -197,13 +197,13 @@ impl Running {
     fn tick_port<D: Draw>(&mut self, alloc: Global, at: EpId, draw: &mut D) -> Result<(), NoMemory>
         ensures { OnOk result (Ran (AtPort at IsPortTick) (D.words draw.old) (D.words draw.new) self.old self.new) }
     {
-        still_port();
+        undue_port();
         let ports = self.state.ports.get();
         let _kept = ports.as_slice();
         let Some(port) = ports.find(at) else {
             return Ok(());
         };
-        if port.is_still(self.state.moment.get()) {
+        if port.is_router_undue(self.state.moment.get()) {
             return Ok(());
         }
         let port = port.clone()?;
@@ -221,10 +221,10 @@ impl Running {
     pub fn tick_ports<D: Draw>(&mut self, alloc: Global, draw: &mut D) -> Result<(), NoMemory>
         ensures { OnOk result (Ran IsPortsTick (D.words draw.old) (D.words draw.new) self.old self.new) }
     {
-        still_port();
+        undue_port();
         let _kept = self.state.ports.get().as_slice();
         let now = self.state.moment.get();
-        if self.state.are_ports_still(now) {
+        if self.state.are_ports_undue(now) {
             return Ok(());
         }
         let endpoints = self.state.ports.get().endpoints(alloc)?;

@@ -14,7 +14,7 @@ use hn_io::Draw;
 use std::alloc::Global;
 
 impl Running {
-    /// Silent peers and ended delegated prefixes go, and a refresh.
+    /// CameToNothing peers and ended delegated prefixes go, and a refresh.
     fn lose<D: Draw>(&mut self, alloc: Global, draw: &mut D) -> Result<(), NoMemory>
         requires { IsRouter self.old.state }
         ensures ran { OnOk result (Ran IsLosing (D.words draw.old) (D.words draw.new) self.old self.new) }

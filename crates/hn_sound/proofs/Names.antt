@@ -1,7 +1,7 @@
 -- The names that proofs of this crate cite most, handed on from one place. Declares nothing.
 pub use Rattle.hn_assign.specs.Advertised.{IsAdvertisedOnLink, LinkEndpoints, advertised_cmp, key_of}
 pub use Rattle.hn_assign.specs.Best.{HasNoBest, HasNoFree, IsBest, IsCandidatePrefix, IsFreeIn, IsValid}
-pub use Rattle.hn_assign.specs.Rest.{IsAheadOfBest, IsAtRest, IsFollowing, IsIdle}
+pub use Rattle.hn_assign.specs.Rest.{IsAheadOfBest, IsAtRest, IsFollowing, IsAtRestWithout}
 pub use Rattle.hn_assign.specs.declared.assigned.Advertised.{Advertised}
 pub use Rattle.hn_assign.specs.declared.assigned.Assigned.{Assigned}
 pub use Rattle.hn_assign.specs.declared.assigned.Wish.{Wish}

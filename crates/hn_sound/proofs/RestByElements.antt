@@ -1,6 +1,6 @@
 -- Rest is a matter of which elements the lists have.
 use Rattle.hn_base.proofs.Names.{inl, inr, ℕ, List, Option, Some, None, PlainPrefix, HaveSame}
-use Rattle.hn_sound.proofs.Names.{Contains, Advertised, Assigned, Wish, LinkEndpoints, IsCandidatePrefix, IsBest, HasNoBest, IsValid, HasNoFree, IsAtRest, IsIdle, IsHomeAtRest, Home, Endpoint}
+use Rattle.hn_sound.proofs.Names.{Contains, Advertised, Assigned, Wish, LinkEndpoints, IsCandidatePrefix, IsBest, HasNoBest, IsValid, HasNoFree, IsAtRest, IsAtRestWithout, IsHomeAtRest, Home, Endpoint}
 use Rattle.hn_sound.proofs.Names.{advertised, common_link, wish_of}
 use Rattle.hn_sound.specs.Members.{IsSeenAtRest}
 use Rattle.hn_sound.proofs.AdvertisedAndLinks.{to_advertised, from_advertised, to_common_link, from_common_link}
@@ -24,7 +24,7 @@ module _ (adv others : List Advertised) (own : ℕ) (wish : Wish) (common : Link
   no_free : HasNoFree adv wish.delegated wish.length → HasNoFree others wish.delegated wish.length
   no_free none p free = none p (record { inside = free.inside; free = λ a advertised. free.free a ((same a).0 advertised) })
 
-  idle : IsIdle adv own wish → IsIdle others own (record wish { common = common })
+  idle : IsAtRestWithout adv own wish → IsAtRestWithout others own (record wish { common = common })
   idle is = record {
     no_best = no_best is.no_best;
     nothing_to_do = elim is.nothing_to_do [ inl unwanted ↦ inl unwanted | inr none ↦ inr (no_free none) ];

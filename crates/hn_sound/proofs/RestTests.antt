@@ -2,7 +2,7 @@
 use Rattle.hn_base.proofs.Names.{◌≡◌, ℕ, inl, inr, Bool, true, false, not, Option, Some, None, List, refl, ap, subst, ◌==◌, is_none, list_all, list_any, is_lt, Less, Equal, Greater, eqb-true, eq-eqb}
 use Rattle.hn_base.proofs.Names.{and_parts, and_from, or_cases, not-true, not_from_false, ne_eqb, eqb-false, key_cmp, IsAbove, PlainPrefix}
 use Rattle.hn_sound.proofs.Names.{◌&&◌, ◌||◌, Contains, Ordering, NodeId, EpId, same_node, same_id, Advertised, Assigned, Wish, LinkEndpoints, key_of, IsAdvertisedOnLink, advertised_cmp}
-use Rattle.hn_sound.proofs.Names.{IsCandidatePrefix, IsBest, HasNoBest, IsValid, HasNoFree, IsAtRest, IsIdle, IsAheadOfBest, IsFollowing, NothingToDo, Published, Valid, GreaterKey, Unpublished}
+use Rattle.hn_sound.proofs.Names.{IsCandidatePrefix, IsBest, HasNoBest, IsValid, HasNoFree, IsAtRest, IsAtRestWithout, IsAheadOfBest, IsFollowing, NothingToDo, Published, Valid, GreaterKey, Unpublished}
 use Rattle.hn_sound.proofs.Names.{BestPrefix, is_one_prefix, prefix_decided, any_of}
 use Rattle.std.specs.Prelude.{is_some}
 use Rattle.hn_assign.specs.Rest.{IsAlone}
@@ -141,7 +141,7 @@ pub from_is_some : (o : Option ℕ) → is_some o ≡ true → (priority : ℕ) 
 from_is_some None h = absurd (cc)
 from_is_some (Some priority) h = (priority, refl)
 
-from_idle : (adv : List Advertised) (own : ℕ) (wish : Wish) → is_idle adv own wish ≡ true → IsIdle adv own wish
+from_idle : (adv : List Advertised) (own : ℕ) (wish : Wish) → is_idle adv own wish ≡ true → IsAtRestWithout adv own wish
 from_idle adv own wish h =
     let parts = and_parts (has_no_best adv own wish.common wish.delegated) (not wish.wanted || is_taken adv wish.delegated) h in
     record {

@@ -10,4 +10,4 @@ mod AnswerMade
 mod Tables
 mod WhatWasBrought
 mod Forgettings
-mod YoungNodes
+mod AgesOfNodes

@@ -12,7 +12,7 @@ pub use Rattle.hn_store.specs.Due.{IsForgottenFrom}
 pub use Rattle.hn_store.specs.Loss.{is_forgotten, is_to_mark, lost_after, marked_node}
 pub use Rattle.hn_store.specs.Nodes.{IsIntact, IsTable, Nodes, entry, held, ids_of_held, put, stored_part}
 pub use Rattle.hn_store.specs.Place.{IsGapFor, IsPlaceOf}
-pub use Rattle.hn_store.specs.Young.{AreYoungBefore}
+pub use Rattle.hn_store.specs.Ages.{AreAgesUndueBefore}
 pub use Rattle.hn_store.specs.declared.state.OwnLeaf.{OwnLeaf}
 pub use Rattle.hn_store.specs.declared.state.Took.{Took}
 pub use Rattle.hn_store.specs.declared.state.Took.TheVariants.{Ask, BadBody, BadHash, Full, Kept, Own, Renumbered, Stale, TooLong}

@@ -6,4 +6,4 @@ pub mod Loss
 pub mod Due
 pub mod Brought
 pub mod Laws
-pub mod Young
+pub mod Ages

@@ -10,7 +10,7 @@ use crate::place::place_of;
 use crate::state::{OwnLeaf, State, Took};
 use crate::stored::{HeldNode, Stored};
 use crate::table::Table;
-use crate::young::young_until;
+use crate::young::age_undue_until;
 use hn_base::{Moment, NoMemory, NodeId, older};
 use hn_data::NodeData;
 use hn_hash::{Part, h, same_hash};
@@ -113,7 +113,7 @@ impl Table {
             body,
             lost: None,
         };
-        self.young = self.young.min(young_until(state.age, now));
+        self.young = self.young.min(age_undue_until(state.age, now));
         match place_of(&self.nodes, state.node) {
             Ok(place) => {
                 let node = &mut self.nodes[place];
@@ -159,7 +159,7 @@ impl Table {
         let Ok(place) = place_of(&self.nodes, state.node) else {
             return Took::Ask;
         };
-        self.young = self.young.min(young_until(state.age, now));
+        self.young = self.young.min(age_undue_until(state.age, now));
         let node = &mut self.nodes[place];
         if !same_hash(node.stored.hash, state.hash) {
             return Took::Ask;

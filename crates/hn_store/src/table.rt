@@ -30,13 +30,13 @@ pub struct Table {
 
 impl Model for Table {
     ghost use Rattle.hn_store.specs.Nodes.{Nodes, IsTable};
-    ghost use Rattle.hn_store.specs.Young.{AreYoungBefore};
+    ghost use Rattle.hn_store.specs.Ages.{AreAgesUndueBefore};
 
     ghost Value = { Nodes };
 
     ghost view = { λ t. record { limit = t.limit; entries = t.nodes.items } };
 
-    ghost invariant = { λ t. IsTable (record { limit = t.limit; entries = t.nodes.items }) × AreYoungBefore t.young t.nodes.items };
+    ghost invariant = { λ t. IsTable (record { limit = t.limit; entries = t.nodes.items }) × AreAgesUndueBefore t.young t.nodes.items };
 }
 
 /// The identifiers of nodes.

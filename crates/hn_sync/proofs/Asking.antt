@@ -8,11 +8,11 @@ use Rattle.hn_sync.proofs.NodeStatesSaid.{IsFit, Knows, Says, IsAsked, Asks, can
 use Rattle.hn_sync.proofs.NothingToRefresh.{IsQuiet, quiet_rests}
 use Rattle.hn_sync.proofs.Replies.{network_requested}
 use Rattle.hn_sync.proofs.Sayings.{ReadLaws, rule_of, Saying, tlv_said}
-use Rattle.hn_sync.proofs.AskedStaysStill.{IsStill, still_quiet, Requested, node_requested}
+use Rattle.hn_sync.proofs.AskedStays.{IsAskedAsBefore, still_quiet, Requested, node_requested}
 
 module _ (read : ReadLaws) (sole : IsSole IsRefresh) (of_entry : HeldIsOfAnEntry) (start : State) (fit : IsFit start) (quiet : IsQuiet start) (from : Origin) where
   pub record Replies (asked said : List Saying) (a : Running) : Type 0 where
-    pub still : IsStill start a.state
+    pub still : IsAskedAsBefore start a.state
     pub next : List Saying
     pub are : AnswersAre a next
     pub all : All (Says start) next
@@ -20,12 +20,13 @@ module _ (read : ReadLaws) (sole : IsSole IsRefresh) (of_entry : HeldIsOfAnEntry
     pub answered : (s : Saying) (id : NodeId) (n : Entry) → Contains asked s → s.about ≡ NodeRequest id → Contains start.reach id → Knows start id n
         → (x : Saying) × Contains next x × (x.about ≡ NodeData id)
 
-  by_about : (about : Subject) (i : PlainItem) (said : List Saying) (r b : Running) → IsAsked about i → IsItemRule from i r b → IsStill start r.state → AnswersAre r said → All (Says start) said
+  by_about : (about : Subject) (i : PlainItem) (said : List Saying) (r b : Running) → IsAsked about i → IsItemRule from i r b → IsAskedAsBefore start r.state → AnswersAre r said
+      → All (Says start) said
       → Replies (record { about = about; item = i } ∷ []) said b
   by_about NetworkRequest i said r b asked rule still are all =
       let got = network_requested of_entry start fit said r b still are all (subst (λ (j : PlainItem). IsItemRule from j r b) asked rule) in
       record {
-        still = subst (IsStill start) (sym got.3.state) still;
+        still = subst (IsAskedAsBefore start) (sym got.3.state) still;
         next = got.3.next;
         are = got.3.are;
         all = got.3.all;
@@ -39,7 +40,7 @@ module _ (read : ReadLaws) (sole : IsSole IsRefresh) (of_entry : HeldIsOfAnEntry
       let is : IsItemRule from (item.RequestNode id.0 []) r b = subst (λ (j : PlainItem). IsItemRule from j r b) asked.0 rule in
       let got = subst (Requested of_entry start fit id said r) (sym is) (node_requested of_entry start fit id said r still are all) in
       record {
-        still = subst (IsStill start) (sym got.state) still;
+        still = subst (IsAskedAsBefore start) (sym got.state) still;
         next = got.next;
         are = got.are;
         all = got.all;
@@ -57,10 +58,10 @@ module _ (read : ReadLaws) (sole : IsSole IsRefresh) (of_entry : HeldIsOfAnEntry
   by_about (NodeState id) i said r b asked rule still are all = absurd asked
   by_about (NodeData id) i said r b asked rule still are all = absurd asked
 
-  pub replies : (asked : List Saying) → All Asks asked → (said : List Saying) (r a : Running) → IsStill start r.state → AnswersAre r said → All (Says start) said
+  pub replies : (asked : List Saying) → All Asks asked → (said : List Saying) (r a : Running) → IsAskedAsBefore start r.state → AnswersAre r said → All (Says start) said
       → Each (λ tlv. Then (IsTlvRule from tlv) IsRefresh) (map tlv_said asked) r a → Replies asked said a
   replies [] asks said r a still are all h = record {
-    still = subst (λ (x : Running). IsStill start x.state) (sym h) still;
+    still = subst (λ (x : Running). IsAskedAsBefore start x.state) (sym h) still;
     next = said;
     are = ap (λ (x : Running). x.answers) h ∙ are;
     all = all;
@@ -71,7 +72,7 @@ module _ (read : ReadLaws) (sole : IsSole IsRefresh) (of_entry : HeldIsOfAnEntry
       let first = All-head Asks s asked asks in
       let one = by_about s.about s.item said r h.1.0 first (rule_of read from s.item r h.1.0 (can_ask s.about s.item first) h.1.1) still are all in
       let rests : h.0 ≡ h.1.0 = quiet_rests sole h.1.0 h.0 (still_quiet start (h.1.0).state one.still quiet) h.1.2 in
-      let rest = replies asked (All-tail Asks s asked asks) one.next h.0 a (subst (λ (x : Running). IsStill start x.state) (sym rests) one.still)
+      let rest = replies asked (All-tail Asks s asked asks) one.next h.0 a (subst (λ (x : Running). IsAskedAsBefore start x.state) (sym rests) one.still)
       (ap (λ (x : Running). x.answers) rests ∙ one.are) one.all h.2 in
       record {
         still = rest.still;

@@ -15,7 +15,7 @@ use Rattle.hn_sync.proofs.CopiesToDeliver.{get_after, set_after, ToAsker, ToAske
 use Rattle.hn_sync.proofs.NothingToRefresh.{IsQuiet}
 use Rattle.hn_sync.proofs.Sayings.{Saying}
 use Rattle.hn_sync.proofs.PeersSaid.{Ascend, knows_at, knows_from_signs}
-use Rattle.hn_sync.proofs.AskedStaysStill.{IsStill}
+use Rattle.hn_sync.proofs.AskedStays.{IsAskedAsBefore}
 use Rattle.hn_sync.proofs.TurnsOfExchange.{TurnLaws, IsReplied, requests_arrive, IsTaught, states_arrive}
 
 pub record GoingLaws : Type 0 where
@@ -78,7 +78,7 @@ module _ (laws : GoingLaws) (here there : Target) (link : ℕ) (start before : S
     pub queue : List Letter
     pub copies : w.copies ≡ front ++ map copy_of queue
     pub letters : AreLetters here there start before queue
-    pub still : IsStill start one.router
+    pub still : IsAskedAsBefore start one.router
     pub learns : LearnsIn queue (begun_at w.moment two.router) []
 
   -- the copies after a delivery

@@ -101,7 +101,7 @@ module _ (copies delivered : ℕ) (told told_after : Option (ℕ → ℕ)) (befo
   refused_then told_end undrawn code is =
       let then = came_refused copies delivered told told_after before after h code more is in
       subst (λ (w : Parts). (ts : List Traced) × (next : WEvent) × CopiesAreDelivered (copies + 1) ts (Some next) before w × (refusal w next ≡ Some code)
-          × Took told (words_of_trace ts) told_end) (sym same)
+      × Took told (words_of_trace ts) told_end) (sym same)
       (then.0, then.1, then.2, then.3, subst (λ (o : Option (ℕ → ℕ)). Took told (words_of_trace then.0) o) (sym undrawn) then.4)
 
   pub cut_then : (ts : List Traced) × (next : WEvent) × CopiesAreDelivered (copies + 1) ts (Some next) before end

@@ -15,7 +15,7 @@ mod Sayings
 mod NodeStatesSaid
 mod Answered
 mod Greetings
-mod AskedStaysStill
+mod AskedStays
 mod Replies
 mod Asking
 mod Holding

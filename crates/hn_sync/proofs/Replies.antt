@@ -8,7 +8,7 @@ use Rattle.hn_typed.specs.Item as item
 use Rattle.hn_sync.proofs.Answered.{AnswersAre, with_more}
 use Rattle.hn_sync.proofs.NodeStatesSaid.{IsFit, Knows, item_of, Says}
 use Rattle.hn_sync.proofs.Sayings.{Saying, IsPart}
-use Rattle.hn_sync.proofs.AskedStaysStill.{IsStill, state_said, some_more, some_state}
+use Rattle.hn_sync.proofs.AskedStays.{IsAskedAsBefore, state_said, some_more, some_state}
 
 -- ---- a list of states, in ascending order of the nodes
 
@@ -62,7 +62,7 @@ module _ (of_entry : HeldIsOfAnEntry) (start : State) (fit : IsFit start) where
     pub ascends : Ascends said → IsStrictlySortedBy node_cmp ids → ((s : Saying) (id : NodeId) → Contains said s → Contains ids id → Below s.about (NodeState id)) → Ascends next
 
   pub states : (ids : List NodeId) → ((id : NodeId) → Contains ids id → Contains start.reach id) → (said : List Saying) (r a : Running)
-      → IsStill start r.state → AnswersAre r said → All (Says start) said
+      → IsAskedAsBefore start r.state → AnswersAre r said → All (Says start) said
       → Each (λ id b a. a ≡ with_state id b) ids r a → States ids said r a
   states [] within said r a still are all h = record {
     state = ap (λ (x : Running). x.state) h;
@@ -77,7 +77,7 @@ module _ (of_entry : HeldIsOfAnEntry) (start : State) (fit : IsFit start) where
       elim (some_more of_entry start fit (NodeState id) false id said r (λ n there knows. (n, there, knows, refl)) still are all (within id (Contains-head id ids))) [
         | inl k ↦
             let state : (h.0).state ≡ r.state = ap (λ (x : Running). x.state) h.1 ∙ some_state (NodeState id) _ r in
-            let rest = states ids (λ x there. within x (Contains-tail id ids x there)) k.2.next h.0 a (subst (IsStill start) (sym state) still)
+            let rest = states ids (λ x there. within x (Contains-tail id ids x there)) k.2.next h.0 a (subst (IsAskedAsBefore start) (sym state) still)
             (ap (λ (x : Running). x.answers) h.1 ∙ k.2.are) k.2.all h.2 in
             record {
               state = rest.state ∙ state;
@@ -108,7 +108,7 @@ module _ (of_entry : HeldIsOfAnEntry) (start : State) (fit : IsFit start) where
         | inr k ↦
             let same : h.0 ≡ r = h.1 ∙ k.1 in
             let rest = states ids (λ x there. within x (Contains-tail id ids x there)) said h.0 a
-            (subst (λ (x : Running). IsStill start x.state) (sym same) still) (ap (λ (x : Running). x.answers) same ∙ are) all h.2 in
+            (subst (λ (x : Running). IsAskedAsBefore start x.state) (sym same) still) (ap (λ (x : Running). x.answers) same ∙ are) all h.2 in
             record {
               state = rest.state ∙ ap (λ (x : Running). x.state) same;
               next = rest.next;
@@ -123,7 +123,7 @@ module _ (of_entry : HeldIsOfAnEntry) (start : State) (fit : IsFit start) where
             }
       ]
 
-  pub network_requested : (said : List Saying) (r a : Running) → IsStill start r.state → AnswersAre r said → All (Says start) said → IsNetworkRequest r a
+  pub network_requested : (said : List Saying) (r a : Running) → IsAskedAsBefore start r.state → AnswersAre r said → All (Says start) said → IsNetworkRequest r a
       → (first : List Saying) × ((s : Saying) → Contains said s → Contains first s)
       × ((said ≡ []) → first ≡ record { about = NetworkState; item = item.NetworkState start.net [] } ∷ []) × States start.reach first r a
   network_requested said r a still are all h =

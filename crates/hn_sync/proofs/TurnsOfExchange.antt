@@ -14,7 +14,7 @@ use Rattle.hn_sync.proofs.NothingToRefresh.{IsQuiet, quiet_after, quiet_rests, I
 use Rattle.hn_sync.proofs.Replies.{Below, Ascends, network_requested}
 use Rattle.hn_sync.proofs.Sayings.{ReadLaws, rule_of, can_say_endpoint, can_say_request, Saying, tlv_said, CanAllBeSaid, AreSaid, packed_said}
 use Rattle.hn_sync.proofs.PeersSaid.{signs, Ascend, ascend_from_signs, knows_at, knows_from_signs}
-use Rattle.hn_sync.proofs.AskedStaysStill.{IsStill, still_self, still_quiet, some_state}
+use Rattle.hn_sync.proofs.AskedStays.{IsAskedAsBefore, still_self, still_quiet, some_state}
 use Rattle.hn_sync.proofs.StatesInTurn.{TableLaws, walk}
 
 pub record TurnLaws : Type 0 where
@@ -47,7 +47,7 @@ fit_with s ports due h = record {
   hash = h.hash;
 }
 
-still_fit : TurnLaws → (start s : State) → IsStill start s → IsRouter s → IsFit start
+still_fit : TurnLaws → (start s : State) → IsAskedAsBefore start s → IsRouter s → IsFit start
 still_fit laws start s still router = fit_with start s.ports still.due (subst IsFit still.gives (fit_of laws s router))
 
 -- ---- the sender is heard
@@ -78,7 +78,7 @@ pub record IsQuestioned (now : ℕ) (from : Origin) (s next : State) (done : Don
   pub start : State
   pub quiet : IsQuiet start
   pub fit : IsFit start
-  pub still : IsStill start next
+  pub still : IsAskedAsBefore start next
   pub named : start.id ≡ s.id
   pub moment : start.moment ≡ now
   pub signed : signs start.ports ≡ signs s.ports
@@ -110,7 +110,7 @@ question_arrives laws now from node endpoint s next done fits too unicast ports 
     let last_state : (h.last).state ≡ r1.state = ap (λ (x : Running). x.state) last ∙ same_b2 in
     let next_is : next ≡ record r1.state { due = h.due } = h.is_next ∙ ap (λ (x : State). let y : State = record x { due = h.due } in y) last_state in
     let same_ports : next.ports ≡ r1.state.ports = ap (λ (x : State). x.ports) next_is in
-    let still : IsStill r1.state next = record { due = h.due; gives = next_is ∙ (λ i. record r1.state { ports = sym same_ports i; due = h.due }); signed = ap signs same_ports } in
+    let still : IsAskedAsBefore r1.state next = record { due = h.due; gives = next_is ∙ (λ i. record r1.state { ports = sym same_ports i; due = h.due }); signed = ap signs same_ports } in
     let fit : IsFit r1.state = still_fit laws r1.state next still router in
     let none : AnswersAre r1 [] = ap (λ (x : Running). x.answers) leaves.gives ∙ ap (λ (x : Running). x.answers) heard.gives in
     let got = network_requested laws.entries.of_entry r1.state fit [] r1 b2 (still_self r1.state) none (All-nil (Says r1.state)) asks in
@@ -138,7 +138,7 @@ question_arrives laws now from node endpoint s next done fits too unicast ports 
 -- ---- requests
 
 pub record IsReplied (start : State) (from : Origin) (asked : List Saying) (next : State) (done : Done) : Type 0 where
-  pub still : IsStill start next
+  pub still : IsAskedAsBefore start next
   pub said : List Saying
   pub all : All (Says start) said
   pub answered : (s : Saying) (id : NodeId) (n : Entry) → Contains asked s → s.about ≡ NodeRequest id → Contains start.reach id → Knows start id n
@@ -147,15 +147,15 @@ pub record IsReplied (start : State) (from : Origin) (asked : List Saying) (next
   pub are_said : AreSaid start.id from.endpoint said datagrams
   pub sends : done.sends ≡ sends_of from datagrams
 
-still_later : (start s : State) (now : ℕ) → start.moment ≡ now → IsStill start s → IsStill start (record s { moment = now })
+still_later : (start s : State) (now : ℕ) → start.moment ≡ now → IsAskedAsBefore start s → IsAskedAsBefore start (record s { moment = now })
 still_later start s now moment h = record {
   due = h.due;
   gives = ap (λ (x : State). let y : State = record x { moment = now } in y) h.gives ∙ (λ i. record start { ports = s.ports; due = h.due; moment = sym moment i });
   signed = h.signed;
 }
 
-still_heard : (start : State) (r b : Running) → IsHeard r b → IsStill start r.state → IsStill start b.state
-still_heard start r b heard h = subst (λ (x : Running). IsStill start x.state) (sym heard.gives) (record {
+still_heard : (start : State) (r b : Running) → IsHeard r b → IsAskedAsBefore start r.state → IsAskedAsBefore start b.state
+still_heard start r b heard h = subst (λ (x : Running). IsAskedAsBefore start x.state) (sym heard.gives) (record {
   due = h.due;
   gives = ap (λ (x : State). let y : State = record x { ports = heard.ports } in y) h.gives;
   signed = heard.signed ∙ h.signed;
@@ -163,20 +163,20 @@ still_heard start r b heard h = subst (λ (x : Running). IsStill start x.state) 
 
 pub requests_arrive : TurnLaws → (start : State) → IsFit start → IsQuiet start
     → (now : ℕ) (from : Origin) (node : NodeId) (endpoint : EpId) (asked : List Saying) (s next : State) (done : Done) → start.moment ≡ now
-    → node.0 < 2 ^ 32 → endpoint.0 < 2 ^ 32 → from.multicast ≡ false → Ascend s.ports → knows_at from.endpoint node endpoint s.ports ≡ true → All Asks asked → IsStill start s
+    → node.0 < 2 ^ 32 → endpoint.0 < 2 ^ 32 → from.multicast ≡ false → Ascend s.ports → knows_at from.endpoint node endpoint s.ports ≡ true → All Asks asked → IsAskedAsBefore start s
     → HasArrived now from (sender_tlv node endpoint ∷ map tlv_said asked) s next done → IsReplied start from asked next done
 requests_arrive laws start fit quiet now from node endpoint asked s next done moment fits too unicast up knows asks still h =
     let r1 : Running = h.walked.0 in
     let b1 : Running = h.walked.1.0 in
     let heard : IsHeard (begun_at now s) b1 = sender_heard laws from node endpoint (begun_at now s) b1 fits too unicast up knows h.walked.1.1 in
-    let still_b1 : IsStill start b1.state = still_heard start (begun_at now s) b1 heard (still_later start s now moment still) in
+    let still_b1 : IsAskedAsBefore start b1.state = still_heard start (begun_at now s) b1 heard (still_later start s now moment still) in
     let same : r1 ≡ b1 = quiet_rests laws.sole b1 r1 (still_quiet start b1.state still_b1 quiet) h.walked.1.2 in
     let none : AnswersAre r1 [] = ap (λ (x : Running). x.answers) same ∙ ap (λ (x : Running). x.answers) heard.gives in
     let got = replies laws.read laws.sole laws.entries.of_entry start fit quiet from asked asks [] r1 h.last
-    (subst (λ (x : Running). IsStill start x.state) (sym same) still_b1) none (All-nil (Says start)) h.walked.2 in
+    (subst (λ (x : Running). IsAskedAsBefore start x.state) (sym same) still_b1) none (All-nil (Says start)) h.walked.2 in
     let same_id : (h.last).state.id ≡ start.id = ap (λ (x : State). x.id) got.still.gives in
     record {
-      still = subst (IsStill start) (sym h.is_next) (record {
+      still = subst (IsAskedAsBefore start) (sym h.is_next) (record {
         due = h.due;
         gives = ap (λ (x : State). let y : State = record x { due = h.due } in y) got.still.gives;
         signed = got.still.signed;

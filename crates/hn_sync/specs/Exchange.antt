@@ -1,7 +1,7 @@
 -- One exchange: a router asks another one for the network state, and each datagram of this is delivered at once.
 use Rattle.std.specs.Prelude.{◌≡◌, ℕ, zero, suc, ◌+◌, true, false, nat_le, is_none, if◌then◌else◌, List, [], ◌∷◌, length, Option, None, Some}
 use Rattle.std.specs.Option.{option_or}
-use Rattle.hn_base.specs.Exists.{Some!}
+use Rattle.hn_base.specs.Exists.{Some! }
 use Rattle.hn_base.specs.Name.{name_text}
 use Rattle.hn_base.specs.Words.{Took}
 use Rattle.hn_base.specs.declared.ids.EpId.{EpId}

@@ -5,7 +5,7 @@ ghost use Rattle.std.specs.List.{flat_map};
 ghost use Rattle.hn_base.specs.Name.{name_text};
 ghost use Rattle.hn_table.specs.Lines.{table_line, peer_line, peers_lines, held_line};
 
-use hn_base::{yes_no, EpId, Hex, Moment, Name};
+use hn_base::{EpId, Hex, Moment, Name, yes_no};
 use hn_dncp::{Neighbour, Port};
 use hn_prefix::address_text;
 use hn_store::HeldNode;

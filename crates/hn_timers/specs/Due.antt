@@ -8,7 +8,7 @@ abbrev pub IsIntervalDue : Interval → ℕ → Type 0
 IsIntervalDue i m = ((i.done ≡ false) × (m ≡ i.fire)) ⊎ (m ≡ i.begin + i.len)
 
 -- nothing is due in the interval: it has fired or its time has not come, and it is not over
-pub record IsIntervalStill (now : ℕ) (i : Interval) : Type 0 where
+pub record IsIntervalUndue (now : ℕ) (i : Interval) : Type 0 where
   pub waits : (i.done ≡ true) ⊎ (now < i.fire)
   pub lasts : now < i.begin + i.len
 

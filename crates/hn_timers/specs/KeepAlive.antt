@@ -11,8 +11,8 @@ expires_at contact interval = contact + (21 * interval + 9) / 10
 
 -- No network state was sent for 20 seconds or longer (RFC 7787, section 6.1.2; the interval is that of RFC 7788,
 -- section 3).
-abbrev pub is_silent : ℕ → ℕ → Bool
-is_silent sent now = nat_le 20000 (now - sent)
+abbrev pub is_keep_alive_due : ℕ → ℕ → Bool
+is_keep_alive_due sent now = nat_le 20000 (now - sent)
 
 -- the moment from which none was
 abbrev pub silence_end : ℕ → ℕ

@@ -1,8 +1,8 @@
 -- Laws of timers.
 use Rattle.std.specs.Prelude.{ℕ, ◌<◌, ◌≤◌, ◌↔◌, IsTrue}
 use Rattle.hn_timers.specs.Interval.{Interval}
-use Rattle.hn_timers.specs.KeepAlive.{is_expired, expires_at, is_silent, silence_end}
-use Rattle.hn_timers.specs.Due.{IsIntervalDue, IsIntervalStill}
+use Rattle.hn_timers.specs.KeepAlive.{is_expired, expires_at, is_keep_alive_due, silence_end}
+use Rattle.hn_timers.specs.Due.{IsIntervalDue, IsIntervalUndue}
 
 -- A silent peer is expired from one moment on.
 abbrev pub ExpiryIsAMoment : Type 0
@@ -11,10 +11,10 @@ ExpiryIsAMoment =
 
 -- A keep-alive is due from one moment on.
 abbrev pub SilenceIsAMoment : Type 0
-SilenceIsAMoment = (sent now : ℕ) → IsTrue (is_silent sent now) ↔ (silence_end sent ≤ now)
+SilenceIsAMoment = (sent now : ℕ) → IsTrue (is_keep_alive_due sent now) ↔ (silence_end sent ≤ now)
 
 -- Where nothing is due in an interval, nothing is until something is.
-abbrev pub StillIntervalStays : Type 0
-StillIntervalStays =
-    (i : Interval) (now later : ℕ) → now ≤ later → IsIntervalStill now i → ((m : ℕ) → IsIntervalDue i m → now < m → later < m)
-    → IsIntervalStill later i
+abbrev pub UndueIntervalStays : Type 0
+UndueIntervalStays =
+    (i : Interval) (now later : ℕ) → now ≤ later → IsIntervalUndue now i → ((m : ℕ) → IsIntervalDue i m → now < m → later < m)
+    → IsIntervalUndue later i

@@ -1,7 +1,7 @@
 ghost use Rattle.std.specs.Prelude.{◌≡◌, ◌≤◌, ◌^◌};
 ghost use Rattle.hn_base.specs.Sooner.{IsSooner};
 ghost use Rattle.hn_timers.specs.Due.{IsExpiryMoment};
-ghost use Rattle.hn_timers.specs.KeepAlive.{is_expired, is_silent, silence_end};
+ghost use Rattle.hn_timers.specs.KeepAlive.{is_expired, is_keep_alive_due, silence_end};
 
 use hn_base::{KEEP_ALIVE_INTERVAL, Moment, sooner};
 
@@ -40,7 +40,7 @@ pub fn next_expiry(contact: Moment, interval: u32, now: Moment, best: Moment) ->
 /// Whether a keep-alive is due, where a network state was last sent at `sent`: that was `KEEP_ALIVE_INTERVAL` ago
 /// or longer (RFC 7787, section 6.1.2). Never allocates.
 pub fn silent(sent: Moment, now: Moment) -> bool
-    ensures { result ≡ is_silent sent now }
+    ensures { result ≡ is_keep_alive_due sent now }
 {
     now.saturating_sub(sent) >= u64::from(KEEP_ALIVE_INTERVAL)
 }

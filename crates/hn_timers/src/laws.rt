@@ -1,6 +1,6 @@
 //! Laws of timers. Each is the contract of a function that does nothing: call it to know its law.
 
-ghost use Rattle.hn_timers.specs.Laws.{ExpiryIsAMoment, SilenceIsAMoment, StillIntervalStays};
+ghost use Rattle.hn_timers.specs.Laws.{ExpiryIsAMoment, SilenceIsAMoment, UndueIntervalStays};
 
 /// A silent peer is expired from one moment on.
 pub fn expiry_is_a_moment()
@@ -13,6 +13,6 @@ pub fn silence_is_a_moment()
 {}
 
 /// Where nothing is due in an interval, nothing is until something is.
-pub fn still_interval_stays()
-    ensures { StillIntervalStays }
+pub fn undue_interval_stays()
+    ensures { UndueIntervalStays }
 {}

@@ -10,5 +10,5 @@ pub use keep_alive::{
     KEEP_ALIVE_MULTIPLIER_DENOMINATOR, KEEP_ALIVE_MULTIPLIER_NUMERATOR, expired, next_expiry,
     next_silence, silent,
 };
-pub use laws::{expiry_is_a_moment, silence_is_a_moment, still_interval_stays};
+pub use laws::{expiry_is_a_moment, silence_is_a_moment, undue_interval_stays};
 pub use trickle::{LONGEST_INTERVAL, SHORTEST_INTERVAL, Trickle};

@@ -1,6 +1,6 @@
 ghost use Rattle.std.specs.Prelude.{◌≡◌, ◌≢◌, ◌^◌, ◌≤◌, ◌↔◌, IsTrue};
 ghost use Rattle.hn_base.specs.Sooner.{IsSooner};
-ghost use Rattle.hn_timers.specs.Due.{IsIntervalDue, IsIntervalStill};
+ghost use Rattle.hn_timers.specs.Due.{IsIntervalDue, IsIntervalUndue};
 ghost use Rattle.hn_timers.specs.Length.{IsLength, next_length};
 
 use hn_base::{Moment, sooner};
@@ -95,8 +95,8 @@ impl Trickle {
 
     /// Whether nothing is due: the timer has fired or its time has not come, and the interval is not over.
     /// Never allocates.
-    pub fn is_still(&self, now: Moment) -> bool
-        ensures { IsTrue result ↔ IsIntervalStill now self.now }
+    pub fn is_interval_undue(&self, now: Moment) -> bool
+        ensures { IsTrue result ↔ IsIntervalUndue now self.now }
     {
         (self.done || now < self.fire) && now < self.begin + u64::from(self.len)
     }

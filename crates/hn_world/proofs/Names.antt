@@ -20,7 +20,7 @@ pub use Rattle.hn_rules.specs.Laws.{HashIsOfLeaves}
 pub use Rattle.hn_rules.specs.Nodes.{leaves_of}
 pub use Rattle.hn_rules.specs.Passing.{after_passing}
 pub use Rattle.hn_rules.specs.Router.{IsRouter}
-pub use Rattle.hn_rules.specs.Still.{at_moment}
+pub use Rattle.hn_rules.specs.Undue.{at_moment}
 pub use Rattle.hn_rules.specs.declared.done.Done.{Done}
 pub use Rattle.hn_rules.specs.declared.done.Note.{Note}
 pub use Rattle.hn_rules.specs.declared.done.Outgoing.{Outgoing}

@@ -6,7 +6,7 @@ ghost use Rattle.hn_router.specs.Act.{Tick, Happened};
 ghost use Rattle.hn_rules.specs.Passing.{after_passing};
 ghost use Rattle.hn_rules.specs.Done.{nothing};
 ghost use Rattle.hn_rules.specs.Router.{IsRouter};
-ghost use Rattle.hn_rules.specs.Still.{at_moment};
+ghost use Rattle.hn_rules.specs.Undue.{at_moment};
 ghost use Rattle.hn_world.specs.declared.member.Member.{Member};
 ghost use Rattle.hn_world.specs.Names.{is_named, is_of, link_of, is_on, NamesDiffer};
 ghost use Rattle.hn_world.specs.Beside.{with_beside};

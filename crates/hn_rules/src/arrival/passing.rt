@@ -104,7 +104,7 @@ impl State {
             endpoint,
             hash,
         } = StatusUpdate::read(bytes)?;
-        if !self.names_alone(port, node, endpoint, now) || !self.is_recent(now) {
+        if !self.names_alone(port, node, endpoint, now) || !self.is_refresh_undue(now) {
             return None;
         }
         if same_hash(hash, self.net) {

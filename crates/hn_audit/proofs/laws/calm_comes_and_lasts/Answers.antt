@@ -29,7 +29,7 @@ returns c =
       rest_changes = c.rest_changes_no_assignment.ensures;
       view = c.view_of_later.ensures;
       used = c.used_where_assigned.ensures;
-      restful = c.restful_tick.ensures;
+      restful = c.calm_tick.ensures;
     } in
     let pass : PassLaws = record {
       unique = c.usable_is_unique.ensures;
@@ -51,7 +51,7 @@ returns c =
       sends = c.ticks_send_status_updates.ensures;
       next = record { traces = c.at_most_one_world.ensures.trace; versions = c.at_most_one_world.ensures.version };
     } in
-    let heard : HeardLaws = record { resting = laws; interval = c.own_interval_is_default.ensures; peers = c.restful_tick_moves_ports.ensures } in
+    let heard : HeardLaws = record { resting = laws; interval = c.own_interval_is_default.ensures; peers = c.calm_tick_moves_ports.ensures } in
     let rounds : RoundLaws = record { heard = heard; lists = c.list_is_unique.ensures; items = c.item_is_unique.ensures; attached = c.peers_are_attached.ensures } in
     let until : UntilLaws = record {
       rests = rests;
@@ -59,7 +59,7 @@ returns c =
       prefixes = c.usable_of_later.ensures.prefixes;
       unwanted = c.usable_of_later.ensures.unwanted;
       ends = c.ends_of_later.ensures;
-      leaves = c.restful_tick_leaves_ages.ensures;
+      leaves = c.calm_tick_leaves_ages.ensures;
       moment = c.moment_is_now.ensures;
     } in
     let all : LastingLaws = record { turns = record { rounds = rounds; sent = c.ticks_have_sent.ensures }; until = until } in

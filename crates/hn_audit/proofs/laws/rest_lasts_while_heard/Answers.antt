@@ -25,7 +25,7 @@ returns c =
       rest_changes = c.rest_changes_no_assignment.ensures;
       view = c.view_of_later.ensures;
       used = c.used_where_assigned.ensures;
-      restful = c.restful_tick.ensures;
+      restful = c.calm_tick.ensures;
     } in
     let pass : PassLaws = record {
       unique = c.usable_is_unique.ensures;
@@ -47,4 +47,4 @@ returns c =
       sends = c.ticks_send_status_updates.ensures;
       next = record { traces = c.at_most_one_world.ensures.trace; versions = c.at_most_one_world.ensures.version };
     } in
-    rest_lasts_while_heard (record { resting = laws; interval = c.own_interval_is_default.ensures; peers = c.restful_tick_moves_ports.ensures })
+    rest_lasts_while_heard (record { resting = laws; interval = c.own_interval_is_default.ensures; peers = c.calm_tick_moves_ports.ensures })

@@ -26,7 +26,7 @@ returns-clause-round c =
       rest_changes = c.rest_changes_no_assignment.ensures;
       view = c.view_of_later.ensures;
       used = c.used_where_assigned.ensures;
-      restful = c.restful_tick.ensures;
+      restful = c.calm_tick.ensures;
     } in
     let pass : PassLaws = record {
       unique = c.usable_is_unique.ensures;
@@ -48,7 +48,7 @@ returns-clause-round c =
       sends = c.ticks_send_status_updates.ensures;
       next = record { traces = c.at_most_one_world.ensures.trace; versions = c.at_most_one_world.ensures.version };
     } in
-    let heard : HeardLaws = record { resting = laws; interval = c.own_interval_is_default.ensures; peers = c.restful_tick_moves_ports.ensures } in
+    let heard : HeardLaws = record { resting = laws; interval = c.own_interval_is_default.ensures; peers = c.calm_tick_moves_ports.ensures } in
     let rounds : RoundLaws = record { heard = heard; lists = c.list_is_unique.ensures; items = c.item_is_unique.ensures; attached = c.peers_are_attached.ensures } in
     round_renews rounds
 
@@ -71,7 +71,7 @@ returns-clause-rounds c =
       rest_changes = c.rest_changes_no_assignment.ensures;
       view = c.view_of_later.ensures;
       used = c.used_where_assigned.ensures;
-      restful = c.restful_tick.ensures;
+      restful = c.calm_tick.ensures;
     } in
     let pass : PassLaws = record {
       unique = c.usable_is_unique.ensures;
@@ -93,6 +93,6 @@ returns-clause-rounds c =
       sends = c.ticks_send_status_updates.ensures;
       next = record { traces = c.at_most_one_world.ensures.trace; versions = c.at_most_one_world.ensures.version };
     } in
-    let heard : HeardLaws = record { resting = laws; interval = c.own_interval_is_default.ensures; peers = c.restful_tick_moves_ports.ensures } in
+    let heard : HeardLaws = record { resting = laws; interval = c.own_interval_is_default.ensures; peers = c.calm_tick_moves_ports.ensures } in
     let rounds : RoundLaws = record { heard = heard; lists = c.list_is_unique.ensures; items = c.item_is_unique.ensures; attached = c.peers_are_attached.ensures } in
     rest_goes_in_rounds rounds

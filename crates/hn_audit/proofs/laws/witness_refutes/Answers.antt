@@ -1,4 +1,4 @@
-use Rattle.hn_audit.proofs.Disturbing.{names_restless, refutes_quiet}
+use Rattle.hn_audit.proofs.Disturbing.{names_one_not_at_rest, refutes_quiet}
 use Rattle.hn_audit.proofs.Judging.{refutes_settled}
 use Rattle.hn_audit.proofs.laws.witness_refutes.Goals as goal
 
@@ -8,5 +8,5 @@ returns-clause-settled c = refutes_settled
 pub returns-clause-quiet : goal.returns-clause-quiet
 returns-clause-quiet c = refutes_quiet c.usable_is_unique.ensures c.pairs_are_ordered.ensures.total c.rest_knows_no_order.ensures
 
-pub returns-clause-restless : goal.returns-clause-restless
-returns-clause-restless c = names_restless c.usable_is_unique.ensures c.pairs_are_ordered.ensures.total c.rest_knows_no_order.ensures
+pub returns-clause-not_at_rest : goal.returns-clause-not_at_rest
+returns-clause-not_at_rest c = names_one_not_at_rest c.usable_is_unique.ensures c.pairs_are_ordered.ensures.total c.rest_knows_no_order.ensures

@@ -1,6 +1,6 @@
 use Rattle.hn_rules.proofs.RefreshChangesNothing.{same_refresh}
-use Rattle.hn_rules.proofs.Refreshes.{fresh_refresh}
+use Rattle.hn_rules.proofs.Refreshes.{refreshed_refresh}
 use Rattle.hn_rules.proofs.laws.refresh_after_a_refresh_rests.Goals as goal
 
 pub returns : goal.returns
-returns c before after are refreshes = same_refresh after (fresh_refresh before after refreshes are)
+returns c before after are refreshes = same_refresh after (refreshed_refresh before after refreshes are)

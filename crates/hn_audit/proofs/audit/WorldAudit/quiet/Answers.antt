@@ -13,7 +13,7 @@ returns-clause-unchanged c m named =
     let w = c.args.self.now in
     let sound : IsSoundWorld w = c.always_sound.ensures.sound w c.is_replayed.ensures in
     let law = c.rest_is_the_fixed_point.ensures in
-    (quiet_or_acts w m sound law.runs law.unchanged law.rests c.witness_refutes.ensures.restless c.in_ok-unquiet.field-0 c.is_none.result c.is_none.ensures
+    (quiet_or_acts w m sound law.runs law.unchanged law.rests c.witness_refutes.ensures.not_at_rest c.in_ok-unquiet.field-0 c.is_none.result c.is_none.ensures
     (c.in_ok-unquiet.ensures.some m named) (returns-clause-quiet c m named)).0
 
 pub returns-clause-acts : goal.returns-clause-acts
@@ -21,7 +21,7 @@ returns-clause-acts c m named =
     let w = c.args.self.now in
     let sound : IsSoundWorld w = c.always_sound.ensures.sound w c.is_replayed.ensures in
     let law = c.rest_is_the_fixed_point.ensures in
-    (quiet_or_acts w m sound law.runs law.unchanged law.rests c.witness_refutes.ensures.restless c.in_ok-unquiet.field-0 c.is_none.result c.is_none.ensures
+    (quiet_or_acts w m sound law.runs law.unchanged law.rests c.witness_refutes.ensures.not_at_rest c.in_ok-unquiet.field-0 c.is_none.result c.is_none.ensures
     (c.in_ok-unquiet.ensures.some m named) (returns-clause-quiet c m named)).1
 
 pub returns-clause-fixed : goal.returns-clause-fixed

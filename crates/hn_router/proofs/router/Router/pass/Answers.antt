@@ -5,7 +5,7 @@ use Rattle.hn_router.proofs.router.Router.pass.Goals as goal
 
 pub invariant_of-self : goal.invariant_of-self
 invariant_of-self c =
-    let laws : KeptLaws = record { later = c.router_stays_later.ensures; idle_is_still = c.idle_is_still.ensures; still_is_idle = c.still_is_idle.ensures } in
+    let laws : KeptLaws = record { later = c.router_stays_later.ensures; idle_is_undue = c.idle_is_undue.ensures; undue_is_idle = c.undue_is_idle.ensures } in
     let s = c.self.inside.state in
     let rises : s.moment ≤ c.args.now = subst (λ (x : State). x.moment ≤ c.args.now) (sym c.self.view_is) c.requires.not_before in
     let undue : c.args.now < s.due = subst (λ (x : State). c.args.now < x.due) (sym c.self.view_is) c.requires.undue in

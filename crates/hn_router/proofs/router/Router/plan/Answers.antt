@@ -8,7 +8,7 @@ run_to-requires-clause-not_before g c = subst (λ (x : State). x.moment ≤ c.ar
 
 pub invariant_of-result : goal.invariant_of-result
 invariant_of-result g c =
-    let laws : KeptLaws = record { later = c.router_stays_later.ensures; idle_is_still = c.idle_is_still.ensures; still_is_idle = c.still_is_idle.ensures } in
+    let laws : KeptLaws = record { later = c.router_stays_later.ensures; idle_is_undue = c.idle_is_undue.ensures; undue_is_idle = c.undue_is_idle.ensures } in
     let event = plain_event c.args.event.now in
     let s = c.self.inside.state in
     let rises : s.moment ≤ c.args.now = subst (λ (x : State). x.moment ≤ c.args.now) (sym c.self.view_is) c.requires.not_before in

@@ -4,9 +4,9 @@ use Rattle.hn_rules.proofs.Resting.{none_expire_at}
 use Rattle.hn_rules.proofs.TouchesNothingRead.{neither}
 use Rattle.hn_rules.proofs.running.Running.expire_ports.Goals as goal
 
-pub returns-then-not-has_silent_peer-clause-rule : goal.returns-then-not-has_silent_peer-clause-rule
-returns-then-not-has_silent_peer-clause-rule c =
-    none_expire_at c.args.self.now (subst ArePorts c.get.ensures c.as_slice-kept.ensures.kept) (c.has_silent_peer.ensures c.if-not-has_silent_peer.true)
+pub returns-then-not-has_expired_peer-clause-rule : goal.returns-then-not-has_expired_peer-clause-rule
+returns-then-not-has_expired_peer-clause-rule c =
+    none_expire_at c.args.self.now (subst ArePorts c.get.ensures c.as_slice-kept.ensures.kept) (c.has_expired_peer.ensures c.if-not-has_expired_peer.true)
 
 pub loop-at-preserved : goal.loop-at-preserved
 loop-at-preserved c = record {

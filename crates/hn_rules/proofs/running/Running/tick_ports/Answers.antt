@@ -1,13 +1,13 @@
 use Rattle.hn_base.proofs.Names.{ℕ, refl, subst, All}
-use Rattle.hn_rules.proofs.Names.{IsPortStill, ArePorts, AtPort, words_taken, IsPortTick, IsPortsTick, ran_plain, ran_next}
+use Rattle.hn_rules.proofs.Names.{IsPortUndue, ArePorts, AtPort, words_taken, IsPortTick, IsPortsTick, ran_plain, ran_next}
 use Rattle.hn_rules.proofs.Resting.{ports_rest}
 use Rattle.hn_rules.proofs.running.Running.tick_ports.Goals as goal
 
-pub returns-then-are_ports_still : goal.returns-then-are_ports_still
-returns-then-are_ports_still g c =
+pub returns-then-are_ports_undue : goal.returns-then-are_ports_undue
+returns-then-are_ports_undue g c =
     let r = c.args.self.now in
-    let still = subst (λ (now : ℕ). All (IsPortStill now) r.state.ports) c.get-now.ensures.moment (c.are_ports_still.ensures.0 c.if-are_ports_still.true) in
-    ran_plain words_taken IsPortsTick _ r r (ports_rest c.still_port.ensures r (subst ArePorts c.get.ensures c.as_slice-kept.ensures.kept) still) refl
+    let still = subst (λ (now : ℕ). All (IsPortUndue now) r.state.ports) c.get-now.ensures.moment (c.are_ports_undue.ensures.0 c.if-are_ports_undue.true) in
+    ran_plain words_taken IsPortsTick _ r r (ports_rest c.undue_port.ensures r (subst ArePorts c.get.ensures c.as_slice-kept.ensures.kept) still) refl
 
 pub loop-at-preserved : goal.loop-at-preserved
 loop-at-preserved g c =

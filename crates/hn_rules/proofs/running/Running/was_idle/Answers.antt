@@ -10,6 +10,6 @@ returns c =
     let now = after.state.moment in
     let silent = c.is_nothing.ensures.0 c.if-not-is_nothing.false in
     let left : IsTrue c.is_left.result ↔ IsLeft now s after.state = subst (λ (n : ℕ). IsTrue c.is_left.result ↔ IsLeft n s after.state) c.get.ensures.moment c.is_left.ensures in
-    let idle = is_idle_where_left c.still_is_idle.ensures c.idle_is_still.ensures c.silent_tick_is_still.ensures c.rules_have_one_result.ensures.tick
+    let idle = is_idle_where_left c.undue_is_idle.ensures c.idle_is_undue.ensures c.tick_of_nothing_is_undue.ensures c.rules_have_one_result.ensures.tick
     s now after c.requires.router c.requires.not_before c.requires.ran silent in
     (λ is. idle.0 (left.0 is), λ is. left.1 (idle.1 is))

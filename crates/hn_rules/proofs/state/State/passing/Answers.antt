@@ -1,7 +1,7 @@
 use Rattle.hn_base.proofs.Names.{◌∙◌, sym, ap, subst}
 use Rattle.hn_rules.proofs.Names.{ArePorts, port_at}
 use Rattle.hn_rules.proofs.Passings.{IsPassing, heard_passes, other_passes}
-use Rattle.hn_rules.proofs.RefreshChangesNothing.{recent_fresh}
+use Rattle.hn_rules.proofs.RefreshChangesNothing.{undue_refreshed}
 use Rattle.hn_rules.proofs.Refreshes.{refreshed-later}
 use Rattle.hn_rules.proofs.state.State.passing.Goals as goal
 
@@ -23,8 +23,8 @@ returns-then-same_hash c =
       numbered = c.names_alone.ensures.numbered c.if-not-names_alone.false;
       other = c.names_alone.ensures.other c.if-not-names_alone.false;
       stays = c.names_alone.ensures.stays c.if-not-names_alone.false;
-      fresh = recent_fresh c.reachability_stays.ensures (record s { moment = now }) (refreshed-later now s c.requires.not_before c.requires.refreshed)
-          (c.is_recent.ensures.young c.if-not-is_recent.false) (c.is_recent.ensures.leads c.if-not-is_recent.false);
+      fresh = undue_refreshed c.reachability_stays.ensures (record s { moment = now }) (refreshed-later now s c.requires.not_before c.requires.refreshed)
+          (c.is_refresh_undue.ensures.young c.if-not-is_refresh_undue.false) (c.is_refresh_undue.ensures.leads c.if-not-is_refresh_undue.false);
     } in
     heard_passes from bytes now s update.node update.endpoint update.hash port passes (sym c.same_hash.ensures.value ∙ c.if-same_hash.true)
 
@@ -46,8 +46,8 @@ returns c =
       numbered = c.names_alone.ensures.numbered c.if-not-names_alone.false;
       other = c.names_alone.ensures.other c.if-not-names_alone.false;
       stays = c.names_alone.ensures.stays c.if-not-names_alone.false;
-      fresh = recent_fresh c.reachability_stays.ensures (record s { moment = now }) (refreshed-later now s c.requires.not_before c.requires.refreshed)
-          (c.is_recent.ensures.young c.if-not-is_recent.false) (c.is_recent.ensures.leads c.if-not-is_recent.false);
+      fresh = undue_refreshed c.reachability_stays.ensures (record s { moment = now }) (refreshed-later now s c.requires.not_before c.requires.refreshed)
+          (c.is_refresh_undue.ensures.young c.if-not-is_refresh_undue.false) (c.is_refresh_undue.ensures.leads c.if-not-is_refresh_undue.false);
     } in
     other_passes from bytes now s update.node update.endpoint update.hash port passes (sym c.same_hash.ensures.value ∙ c.if-same_hash.false)
     (sym c.may_ask.ensures ∙ c.if-may_ask.false)

@@ -1,6 +1,6 @@
 use Rattle.hn_base.proofs.Names.{List, length, map, sym, ap, subst, ◌≡◌, ◌∙◌, length-map}
-use Rattle.hn_store.proofs.Names.{HeldNode, IsTable, marked_node, AreYoungBefore}
-use Rattle.hn_store.proofs.YoungNodes.{young_marked}
+use Rattle.hn_store.proofs.Names.{HeldNode, IsTable, marked_node, AreAgesUndueBefore}
+use Rattle.hn_store.proofs.AgesOfNodes.{ages_marked}
 use Rattle.hn_store.proofs.Losses.{IsTable-marked, whole_write}
 use Rattle.hn_store.proofs.table.Table.mark.Goals as goal
 
@@ -12,5 +12,5 @@ invariant_of-self c =
     let whole = whole_write c.self.inside.nodes.items c.mark_each.new.nodes c.self.inside.nodes.len
     (ap length marked_is ∙ length-map c.self.inside.nodes.items (marked_node c.args.reach.now c.args.now)) (sym c.deref_mut.ensures.len ∙ all) in
     let xs = c.self.inside.nodes.items in
-    subst (λ (nodes : List HeldNode). IsTable (record { limit = c.self.inside.limit; entries = nodes }) × AreYoungBefore c.self.inside.young nodes) (sym (whole ∙ marked_is))
-    (IsTable-marked c.self.inside.limit c.args.reach.now c.args.now xs c.self.invariant.0, young_marked c.self.inside.young c.args.reach.now c.args.now xs c.self.invariant.1)
+    subst (λ (nodes : List HeldNode). IsTable (record { limit = c.self.inside.limit; entries = nodes }) × AreAgesUndueBefore c.self.inside.young nodes) (sym (whole ∙ marked_is))
+    (IsTable-marked c.self.inside.limit c.args.reach.now c.args.now xs c.self.invariant.0, ages_marked c.self.inside.young c.args.reach.now c.args.now xs c.self.invariant.1)

@@ -1,6 +1,6 @@
 use Rattle.hn_base.proofs.Names.{◌≡◌, ◌≢◌, ◌≤◌, ◌∙◌, List, set, arith, ap, sym, subst, rules}
-use Rattle.hn_store.proofs.Names.{Ask, Renumbered, Stored, HeldNode, Nodes, IsTable, IsPlaceOf, plain_state, held_part, stored_renumbered, entries_after, IsOfNumber, AreYoungBefore}
-use Rattle.hn_store.proofs.YoungNodes.{young_set}
+use Rattle.hn_store.proofs.Names.{Ask, Renumbered, Stored, HeldNode, Nodes, IsTable, IsPlaceOf, plain_state, held_part, stored_renumbered, entries_after, IsOfNumber, AreAgesUndueBefore}
+use Rattle.hn_store.proofs.AgesOfNodes.{ages_set}
 use Rattle.hn_store.proofs.Changing.{ask_unknown, ask_other, renumber_same, IsTable-there, intact_there, intact_renumbered, after_renumbered}
 use Rattle.hn_store.proofs.table.Table.renumber.Goals as goal
 
@@ -27,13 +27,13 @@ invariant_of-self-2 c =
     let one = intact_there c.self.inside.limit c.self.inside.nodes.items s.node c.in-Ok.place x c.self.invariant.0 place c.index_mut-node.ensures.value in
     let P = λ (stored : Stored). IsTable (record { limit = c.self.inside.limit; entries = set c.self.inside.nodes.items c.in-Ok.place (record { id = x.id; stored = stored }) }) in
     let sooner = c.min-self-inside.result in
-    let until = c.young_until.result in
+    let until = c.age_undue_until.result in
     let before : sooner ≤ c.self.inside.young = omega (arith, c.min-self-inside.ensures) in
     let early : sooner ≤ until = omega (arith, c.min-self-inside.ensures) in
-    let Q = λ (stored : Stored). AreYoungBefore sooner (set c.self.inside.nodes.items c.in-Ok.place (record { id = x.id; stored = stored })) in
+    let Q = λ (stored : Stored). AreAgesUndueBefore sooner (set c.self.inside.nodes.items c.in-Ok.place (record { id = x.id; stored = stored })) in
     let young = subst Q (sym c.renumber.ensures)
-    (young_set c.self.inside.young sooner until c.self.inside.nodes.items c.in-Ok.place
-    (record { id = x.id; stored = stored_renumbered s c.args.now x.stored }) before early c.self.invariant.1 c.young_until.ensures) in
+    (ages_set c.self.inside.young sooner until c.self.inside.nodes.items c.in-Ok.place
+    (record { id = x.id; stored = stored_renumbered s c.args.now x.stored }) before early c.self.invariant.1 c.age_undue_until.ensures) in
     let table = subst P (sym c.renumber.ensures)
     (IsTable-there c.self.inside.limit c.self.inside.nodes.items s.node c.in-Ok.place x (stored_renumbered s c.args.now x.stored) c.self.invariant.0 place c.index_mut-node.ensures.value
     (intact_renumbered s c.args.now x.stored one)) in

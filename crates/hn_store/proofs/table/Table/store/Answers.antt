@@ -1,7 +1,7 @@
 use Rattle.hn_base.proofs.Names.{◌≡◌, ◌≢◌, ◌<◌, ◌≤◌, ◌∙◌, ℕ, List, Some, None, length, set, ap, sym, subst, arith, insert}
-use Rattle.hn_store.proofs.Names.{HeldNode, Nodes, IsTable, held, entry, put, IsPlaceOf, IsGapFor, plain_state, stored_from, AreYoungBefore}
+use Rattle.hn_store.proofs.Names.{HeldNode, Nodes, IsTable, held, entry, put, IsPlaceOf, IsGapFor, plain_state, stored_from, AreAgesUndueBefore}
 use Rattle.hn_store.proofs.NodePlaces.{held-none}
-use Rattle.hn_store.proofs.YoungNodes.{young_set, young_insert}
+use Rattle.hn_store.proofs.AgesOfNodes.{ages_set, ages_insert}
 use Rattle.hn_store.proofs.TableStays.{IsTable-insert}
 use Rattle.hn_store.proofs.Changing.{IsTable-there, intact_kept, after_replaced, after_inserted}
 use Rattle.hn_store.proofs.table.Table.store.Goals as goal
@@ -20,10 +20,10 @@ invariant_of-self c =
     let table = subst P (sym c.requires.same)
     (IsTable-there c.self.inside.limit xs s.node c.in-Ok.place x (stored_from s c.args.now (Some x.stored)) c.self.invariant.0 place c.index_mut-node.ensures.value one) in
     let sooner = c.min-self-inside.result in
-    let until = c.young_until.result in
+    let until = c.age_undue_until.result in
     let before : sooner ≤ c.self.inside.young = omega (arith, c.min-self-inside.ensures) in
     let early : sooner ≤ until = omega (arith, c.min-self-inside.ensures) in
-    (table, young_set c.self.inside.young sooner until xs c.in-Ok.place _ before early c.self.invariant.1 c.young_until.ensures)
+    (table, ages_set c.self.inside.young sooner until xs c.in-Ok.place _ before early c.self.invariant.1 c.age_undue_until.ensures)
 
 pub returns-in-Ok-clause-ok : goal.returns-in-Ok-clause-ok
 returns-in-Ok-clause-ok c =
@@ -52,11 +52,11 @@ invariant_of-self-in-Err c =
     let table = subst P (sym (c.in_ok-insert-in-Err.ensures.items ∙ with_body))
     (IsTable-insert c.self.inside.limit s.node c.in-Err.place (stored_from s c.args.now None) xs c.self.invariant.0 gap less one) in
     let sooner = c.min-self-inside.result in
-    let until = c.young_until.result in
+    let until = c.age_undue_until.result in
     let before : sooner ≤ c.self.inside.young = omega (arith, c.min-self-inside.ensures) in
     let early : sooner ≤ until = omega (arith, c.min-self-inside.ensures) in
-    let young = young_insert c.self.inside.young sooner until s.node xs c.in-Err.place (stored_from s c.args.now None) gap before early c.self.invariant.1 c.young_until.ensures in
-    (table, subst (AreYoungBefore sooner) (sym (c.in_ok-insert-in-Err.ensures.items ∙ with_body)) young)
+    let young = ages_insert c.self.inside.young sooner until s.node xs c.in-Err.place (stored_from s c.args.now None) gap before early c.self.invariant.1 c.age_undue_until.ensures in
+    (table, subst (AreAgesUndueBefore sooner) (sym (c.in_ok-insert-in-Err.ensures.items ∙ with_body)) young)
 
 pub returns-in_ok-insert-in-Err-clause-ok : goal.returns-in_ok-insert-in-Err-clause-ok
 returns-in_ok-insert-in-Err-clause-ok c =

@@ -1,5 +1,0 @@
-use Rattle.hn_timers.proofs.StillUntilDue.{stays}
-use Rattle.hn_timers.proofs.laws.still_interval_stays.Goals as goal
-
-pub returns : goal.returns
-returns c = λ i now later goes still none. stays i now later still none

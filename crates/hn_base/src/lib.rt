@@ -23,7 +23,7 @@ mod sequence;
 mod shared;
 mod split;
 mod version;
-mod yes_no;
+mod yes_or_no;
 
 pub use addr::{Addr, link_local};
 pub use ascending::{ascending_is_unique, is_in_set, sort_to_set};
@@ -45,4 +45,4 @@ pub use sequence::{Bytes, Sequence, Words};
 pub use shared::{Exact, Shared};
 pub use split::split_once;
 pub use version::Version;
-pub use yes_no::yes_no;
+pub use yes_or_no::yes_no;

@@ -5,6 +5,7 @@ mod GapLemmas
 mod JumpsLeft
 mod Masks
 mod OneRead
+mod SearchParts
 mod SubPrefixAtPlace
 mod ReadLemmas
 mod PlaceAfterStart

@@ -1,10 +1,10 @@
 -- The sub-prefix at a place: it is a prefix within the outer one, and what overlaps it leads to a later place.
-use Rattle.hn_base.proofs.Names.{◌≡◌, ℕ, ◌+◌, ◌-◌, ◌*◌, ◌/◌, ◌%◌, ◌^◌, ◌<◌, ◌≤◌, ◌↔◌, refl, arith, ap, ◌∙◌, sym, subst, le_refl, div-add-mod, pow_pos, pow-add, mul-le, mod-pow-add, PlainPrefix}
+use Rattle.hn_base.proofs.Names.{◌≡◌, ℕ, ◌+◌, ◌-◌, ◌*◌, ◌/◌, ◌%◌, ◌^◌, ◌<◌, ◌≤◌, ◌↔◌, refl, arith, ap, ◌∙◌, sym, subst, List, get_or, Contains, Contains-get_or, le_refl, div-add-mod, pow_pos, pow-add, mul-le, mod-pow-add, PlainPrefix}
 use Rattle.hn_base.proofs.Names.{IsPrefix, IsWithin, Overlaps, last_address}
 use Rattle.hn_prefix.proofs.Names.{sub_prefix, sub_prefix_count, next_place}
 use Rattle.std.proofs.Math.Nat.{div-mul-le_self, add-mul-mod_self_right}
 use Rattle.std.proofs.lemmas.Nat.{le-div, shl-shr}
-use Rattle.hn_prefix.specs.Free.{IsSubPrefix, IsPrefixInside}
+use Rattle.hn_prefix.specs.Free.{IsSubPrefix, IsPrefixInside, OverlapsAt}
 use Rattle.hn_prefix.proofs.InsideAndOverlap.{block_fits, within_range, overlap_range}
 
 -- the place of a sub-prefix
@@ -59,6 +59,14 @@ pub record Blocks (outer blocker : PlainPrefix) (len place : ℕ) : Type 0 where
   pub at : IsPlace outer len place
   pub valid : IsPrefix blocker
   pub overlap : Overlaps blocker (sub_prefix outer len place)
+
+-- the prefix at the place of one that overlaps is a taken one
+pub block_at : (taken : List PlainPrefix) (p blocker : PlainPrefix) (at : ℕ) → OverlapsAt taken p at → blocker ≡ get_or taken at blocker
+    → Overlaps blocker p × Contains taken blocker
+block_at taken p blocker at found is =
+    let P : PlainPrefix → Type 0 = λ t. Overlaps t p in
+    let Q : PlainPrefix → Type 0 = λ t. Contains taken t in
+    (subst P (sym is) (found.overlap blocker), subst Q (sym is) (Contains-get_or taken at blocker found.within))
 
 pub blocked : (outer blocker candidate : PlainPrefix) (len place : ℕ) → IsPlace outer len place → IsPrefix blocker
     → candidate ≡ sub_prefix outer len place → Overlaps blocker candidate → Blocks outer blocker len place

@@ -1,4 +1,4 @@
-use Rattle.std.specs.Prelude.{◌≡◌, ℕ, ◌+◌, ◌-◌, ◌*◌, ◌/◌, ◌%◌, ◌^◌, ◌<◌, min, List, All, Any}
+use Rattle.std.specs.Prelude.{◌≡◌, ℕ, ◌+◌, ◌-◌, ◌*◌, ◌/◌, ◌%◌, ◌^◌, ◌<◌, min, List, length, get_or, All, Any}
 use Rattle.hn_base.specs.Prefix.{PlainPrefix, IsPrefix, IsWithin, Overlaps}
 
 -- the prefixes of one length inside a prefix are numbered from 0, in ascending order
@@ -25,6 +25,11 @@ sub_prefix_after outer len start ahead = sub_prefix outer len ((start + ahead) %
 -- the place after that of the one with this address inside; the count, where the address is past the outer prefix
 abbrev pub next_place : PlainPrefix → ℕ → ℕ → ℕ
 next_place outer len address = min ((address - outer.bits) / 2 ^ (128 - len) + 1) (sub_prefix_count outer len)
+
+-- the prefix at a place of the taken ones overlaps p
+pub record OverlapsAt (taken : List PlainPrefix) (p : PlainPrefix) (at : ℕ) : Type 0 where
+  pub within : at < length taken
+  pub overlap : (d : PlainPrefix) → Overlaps (get_or taken at d) p
 
 -- a prefix is free where it overlaps none of the taken ones, and else taken
 abbrev pub IsFree : List PlainPrefix → PlainPrefix → Type 0

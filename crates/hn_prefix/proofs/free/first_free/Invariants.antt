@@ -6,6 +6,7 @@ use Rattle.hn_prefix.proofs.free.first_free.Given as goal
 abbrev pub invariant-loop-ahead : goal.invariant-loop-ahead
 invariant-loop-ahead l = record {
   each_taken_before : EachTakenBefore l.taken l.outer l.len l.start l.ahead;
+  from_in_taken : l.from ≤ length l.taken;
   few_jumps_left : jumps_left l.outer l.taken l.len (l.first + l.ahead) ≤ 2 * length l.taken;
 }
 

@@ -46,7 +46,8 @@ next_place-requires-clause-not_below c =
     let at =
     place_at c.args.outer.now c.args.len c.args.start c.loop-ahead.ahead c.sub_prefix_count-count.result c.sub_prefix_count-count.ensures.valid
     c.requires.not_shorter c.requires.len_in_range c.sub_prefix_count-count.ensures.value c.loop-ahead-test.true in
-    let blocks = blocked c.args.outer.now c.index-taken-at.result c.sub_prefix-candidate.result c.args.len _ at c.last_address.ensures.valid c.sub_prefix-candidate.ensures (block_at _ _ _ _ c.in-Some.ensures.found c.index-taken-at.is).0 in
+    let blocks = blocked c.args.outer.now c.index-taken-at.result c.sub_prefix-candidate.result c.args.len _ at c.last_address.ensures.valid c.sub_prefix-candidate.ensures
+    (block_at _ _ _ _ c.in-Some.ensures.found c.index-taken-at.is).0 in
     omega (arith, reaches c.args.outer.now c.index-taken-at.result c.args.len _ blocks)
 
 pub overflow_sub-ahead : goal.overflow_sub-ahead
@@ -65,7 +66,8 @@ loop-ahead-preserved c =
     let at =
     place_at c.args.outer.now c.args.len c.args.start c.loop-ahead.ahead c.sub_prefix_count-count.result c.sub_prefix_count-count.ensures.valid
     c.requires.not_shorter c.requires.len_in_range c.sub_prefix_count-count.ensures.value c.loop-ahead-test.true in
-    let blocks = blocked c.args.outer.now c.index-taken-at.result c.sub_prefix-candidate.result c.args.len _ at c.last_address.ensures.valid c.sub_prefix-candidate.ensures (block_at _ _ _ _ c.in-Some.ensures.found c.index-taken-at.is).0 in
+    let blocks = blocked c.args.outer.now c.index-taken-at.result c.sub_prefix-candidate.result c.args.len _ at c.last_address.ensures.valid c.sub_prefix-candidate.ensures
+    (block_at _ _ _ _ c.in-Some.ensures.found c.index-taken-at.is).0 in
     let following : c.next_place.result ≡ next_place c.args.outer.now c.args.len (last_address c.index-taken-at.result) =
     c.next_place.ensures ∙ ap (λ a. next_place c.args.outer.now c.args.len a) c.last_address.ensures.value in
     let place = place_now c.args.start c.loop-ahead.ahead c.sub_prefix_count-count.result (sub_prefix_count c.args.outer.now c.args.len) c.sub_prefix_count-count.ensures.value in
@@ -81,7 +83,8 @@ loop-ahead-smaller c =
     let at =
     place_at c.args.outer.now c.args.len c.args.start c.loop-ahead.ahead c.sub_prefix_count-count.result c.sub_prefix_count-count.ensures.valid
     c.requires.not_shorter c.requires.len_in_range c.sub_prefix_count-count.ensures.value c.loop-ahead-test.true in
-    let blocks = blocked c.args.outer.now c.index-taken-at.result c.sub_prefix-candidate.result c.args.len _ at c.last_address.ensures.valid c.sub_prefix-candidate.ensures (block_at _ _ _ _ c.in-Some.ensures.found c.index-taken-at.is).0 in
+    let blocks = blocked c.args.outer.now c.index-taken-at.result c.sub_prefix-candidate.result c.args.len _ at c.last_address.ensures.valid c.sub_prefix-candidate.ensures
+    (block_at _ _ _ _ c.in-Some.ensures.found c.index-taken-at.is).0 in
     let following : c.next_place.result ≡ next_place c.args.outer.now c.args.len (last_address c.index-taken-at.result) =
     c.next_place.ensures ∙ ap (λ a. next_place c.args.outer.now c.args.len a) c.last_address.ensures.value in
     let later = later_place c.args.outer.now c.index-taken-at.result c.args.len _ blocks in

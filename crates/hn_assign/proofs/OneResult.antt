@@ -114,7 +114,7 @@ pub record IsInOrder (r : Ran) : Type 0 where
 pub step_in_order : (view : PlainView) (wish : Wish) (words : List ℕ) (before after : Ran) → IsPairStep view wish words before after → IsInOrder after
 step_in_order view wish words before after step = record { assigned = step.assigned.ascending; backoffs = step.backoffs.ascending }
 
-step_one : (view : PlainView) (wish : Wish) (stream : ℕ → ℕ) (v w : List ℕ) (before a b : Ran)
+pub step_one : (view : PlainView) (wish : Wish) (stream : ℕ → ℕ) (v w : List ℕ) (before a b : Ran)
     → IsInOrder before → IsPairStep view wish v before a → IsPairStep view wish w before b → Begins a.words stream → Begins b.words stream → a ≡ b
 step_one view wish stream v w before a b up p q at_a at_b =
     let pair = wish_pair wish in
@@ -143,7 +143,7 @@ steps_grow : (view : PlainView) (wishes : List Wish) (stream : ℕ → ℕ) (bef
 steps_grow view [] stream before after same begins = subst (λ (r : Ran). Begins r.words stream) same begins
 steps_grow view (wish ∷ wishes) stream before after steps begins = step_grows view wish stream steps.1 before steps.0 steps.2 (steps_grow view wishes stream steps.0 after steps.3 begins)
 
-steps_one : (view : PlainView) (wishes : List Wish) (stream : ℕ → ℕ) (before a b : Ran)
+pub steps_one : (view : PlainView) (wishes : List Wish) (stream : ℕ → ℕ) (before a b : Ran)
     → IsInOrder before → AreSteps view wishes before a → AreSteps view wishes before b → Begins a.words stream → Begins b.words stream → a ≡ b
 steps_one view [] stream before a b up p q at_a at_b = p ∙ sym q
 steps_one view (wish ∷ wishes) stream before a b up p q at_a at_b =

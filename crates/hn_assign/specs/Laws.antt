@@ -23,7 +23,8 @@ use Rattle.hn_assign.specs.Marks.{marked_applied}
 use Rattle.hn_assign.specs.Pair.{IsAscending, IsWished, assigned_pair, backoff_pair, wish_pair}
 use Rattle.hn_assign.specs.Rest.{IsAtRest, IsWantedNoMore}
 use Rattle.hn_assign.specs.Scene.{PlainScene, IsBestFor}
-use Rattle.hn_assign.specs.Subroutine.{IsSubroutine}
+use Rattle.hn_assign.specs.Step.{IsPairStep}
+use Rattle.hn_assign.specs.Subroutine.{AreSteps, IsSubroutine}
 
 -- What is best for a pair is one: a prefix, or none.
 abbrev pub BestIsUnique : Type 0
@@ -86,6 +87,22 @@ abbrev pub SubroutineHasOneResult : Type 0
 SubroutineHasOneResult =
     (view : PlainView) (wishes : List Wish) (held : Held) (a b : Ran) (stream : ℕ → ℕ)
     → IsSubroutine view wishes held a → IsSubroutine view wishes held b
+    → Begins a.words stream → Begins b.words stream → a ≡ b
+
+-- From a state whose lists ascend, the step of a pair has at most one result over one stream of words.
+abbrev pub StepHasOneResult : Type 0
+StepHasOneResult =
+    (view : PlainView) (wish : Wish) (taken others : List ℕ) (before a b : Ran) (stream : ℕ → ℕ)
+    → IsAscending assigned_pair before.held.assigned → IsAscending backoff_pair before.held.backoffs
+    → IsPairStep view wish taken before a → IsPairStep view wish others before b
+    → Begins a.words stream → Begins b.words stream → a ≡ b
+
+-- So do the steps of some pairs, one after another.
+abbrev pub StepsHaveOneResult : Type 0
+StepsHaveOneResult =
+    (view : PlainView) (wishes : List Wish) (before a b : Ran) (stream : ℕ → ℕ)
+    → IsAscending assigned_pair before.held.assigned → IsAscending backoff_pair before.held.backoffs
+    → AreSteps view wishes before a → AreSteps view wishes before b
     → Begins a.words stream → Begins b.words stream → a ≡ b
 
 -- ---- rest

@@ -14,7 +14,7 @@ ghost use Rattle.hn_assign.specs.declared.held.Ran.{Ran};
 ghost use Rattle.hn_assign.specs.declared.slot.Slot.{Slot};
 ghost use Rattle.hn_assign.specs.Laws.{BestIsUnique, SubroutineKeepsInside, SubroutineKeepsPast};
 ghost use Rattle.hn_assign.specs.Laws.{SubroutineKeepsPriority, AssignedAscend, BackoffsAscend, AssignedAreWished};
-ghost use Rattle.hn_assign.specs.Laws.{SubroutineHasOneResult, RestIsUnchanged, RestHasADueRun};
+ghost use Rattle.hn_assign.specs.Laws.{SubroutineHasOneResult, StepHasOneResult, StepsHaveOneResult, RestIsUnchanged, RestHasADueRun};
 ghost use Rattle.hn_assign.specs.Laws.{RestChangesNoAssignment, MarksChangeNothing, AdvertisedOfUnchanged, RestStays};
 ghost use Rattle.hn_assign.specs.Laws.{RestStaysUnwanted, AdvertisedOfLater, IdleRunStays, SameHaveOneBest};
 ghost use Rattle.hn_assign.specs.Laws.{SameHaveOneFirstFree, SameHaveSameFree, SameHaveSameValid, AdvertisedExists};
@@ -72,6 +72,13 @@ pub fn subroutine_leaves()
 /// The subroutine has at most one result: that of one view, wishes, held and stream of words.
 pub fn subroutine_has_one_result()
     ensures { SubroutineHasOneResult }
+{}
+
+/// From a state whose lists ascend, the step of a pair has at most one result over one stream of words, and so have the steps
+/// of some pairs, one after another.
+pub fn steps_have_one_result()
+    ensures step { StepHasOneResult }
+    ensures steps { StepsHaveOneResult }
 {}
 
 /// The subroutine leaves all assignments as they are, marks of application aside, if and only if each pair is at rest.

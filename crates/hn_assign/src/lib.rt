@@ -35,7 +35,8 @@ pub use laws::{
     advertised_exists, advertised_of_later, advertised_of_unchanged, answers_know_no_order,
     idle_run_stays, lines_exclude_each_other, marks_change_nothing, pairs_are_ordered,
     rest_changes_no_assignment, rest_has_a_run, rest_is_unchanged, rest_stays,
-    subroutine_has_a_result, subroutine_has_one_result, subroutine_keeps, subroutine_leaves,
+    steps_have_one_result, subroutine_has_a_result, subroutine_has_one_result, subroutine_keeps,
+    subroutine_leaves,
 };
 pub use of_pairs::OfPairs;
 pub use pair::{Pair, Paired};

@@ -11,7 +11,7 @@ impl Port {
     pub fn is_port_undue(&self, now: Moment) -> bool
         ensures { IsTrue result ↔ IsPortUndue now self.now }
     {
-        self.trickle.is_port_undue(now) && !silent(self.sent, now)
+        self.trickle.is_interval_undue(now) && !silent(self.sent, now)
     }
 
     /// The first moment after now and before `best` at which something is due here; else `best`. Never allocates.

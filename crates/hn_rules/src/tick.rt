@@ -101,7 +101,7 @@ impl State {
             .get()
             .as_slice()
             .iter()
-            .all(|port| port.is_router_undue(now))
+            .all(|port| port.is_port_undue(now))
     }
 }
 
@@ -203,7 +203,7 @@ impl Running {
         let Some(port) = ports.find(at) else {
             return Ok(());
         };
-        if port.is_router_undue(self.state.moment.get()) {
+        if port.is_port_undue(self.state.moment.get()) {
             return Ok(());
         }
         let port = port.clone()?;

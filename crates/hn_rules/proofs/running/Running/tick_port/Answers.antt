@@ -5,12 +5,12 @@ use Rattle.hn_rules.proofs.Resting.{port_rests}
 use Rattle.hn_rules.proofs.Ticking.{port_ticks}
 use Rattle.hn_rules.proofs.running.Running.tick_port.Goals as goal
 
-pub returns-then-is_router_undue : goal.returns-then-is_router_undue
-returns-then-is_router_undue g c =
+pub returns-then-is_port_undue : goal.returns-then-is_port_undue
+returns-then-is_port_undue g c =
     let r = c.args.self.now in
     let port = c.in-Some.port.now in
     let ports = c.get-ports.ensures in
-    let still = subst (λ (now : ℕ). IsPortUndue now port) c.get.ensures.moment (c.is_router_undue.ensures.0 c.if-is_router_undue.true) in
+    let still = subst (λ (now : ℕ). IsPortUndue now port) c.get.ensures.moment (c.is_port_undue.ensures.0 c.if-is_port_undue.true) in
     let rests = port_rests c.undue_port.ensures c.args.at port r (subst ArePorts ports c.as_slice-kept.ensures.kept) (sym (c.in-Some.ensures ∙ ap (port_at c.args.at) ports)) still in
     ran_plain words_taken (AtPort c.args.at IsPortTick) _ r r (at_port c.args.at port c.get-ports.result.now IsPortTick r r c.in-Some.ensures ports rests) refl
 

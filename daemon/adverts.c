@@ -17,6 +17,10 @@ enum { LEAST_BETWEEN = 3000, LONGEST_DELAY = 500, QUIET = 15000 };
  * change the next one comes after LEAST_BETWEEN, and up to TURN_MORE more, as often as it takes to tell each (hn_router.h). */
 enum { TURNS = 11, TURN_MORE = 3000 };
 
+/* Of departed prefixes hosts are told first. A Linux host (6.18) begins to look at its addresses while it still takes the prefixes
+ * of the advertisement, and may then overlook an address for up to two minutes. So an advertisement with a departed prefix is
+ * followed by a short one of one prefix, after LEAST_BETWEEN and up to TURN_MORE more: it has the host look once more. */
+
 /* In seconds: how long a server of names counts, which is three times the longest interval (RFC 8106, section 5.1). */
 enum { SERVER_LIFETIME = 1800 };
 
@@ -24,8 +28,8 @@ enum { SERVER_LIFETIME = 1800 };
  * 1,280 less the header of IPv6 and one of 8 bytes. */
 enum { HEAD = 16, INFO = 32, MOST_PACKET = 1232, MOST_OPTIONS = 16 + 16 * MOST_SERVERS };
 
-/* Kinds of options. */
-enum { SOURCE = 1, PREFIX = 3, SERVERS = 25 };
+/* Kinds of options; the flags of a prefix that is on the link, and of which hosts make addresses. */
+enum { SOURCE = 1, PREFIX = 3, SERVERS = 25, MAKES_ADDRESSES = 0xc0 };
 
 static bool is_ending;
 
@@ -42,12 +46,11 @@ void begin_adverts(struct link *link)
     *it = (struct advertising){.begun = now(), .earliest = it->earliest, .next = now() + QUIET, .has_sent = it->has_sent};
 }
 
-/* Whether an earlier daemon had a prefix on a link that hosts may hold. */
-static bool has_departed(const struct link *link)
+/* Finds a prefix that hosts of a link may hold, be it of an earlier daemon. Whether there is one. */
+static bool find_held(const struct link *link, hn_departed *it)
 {
-    hn_departed it;
     for (size_t place = 0; place < hn_router_departures(&router); place++) {
-        if (is_done(hn_router_departed(&router, place, &it), "departed") && it.endpoint == link->endpoint && it.valid > 0)
+        if (is_done(hn_router_departed(&router, place, it), "departed") && it->endpoint == link->endpoint && it->valid > 0)
             return true;
     }
     return false;
@@ -66,6 +69,7 @@ static void hasten(struct advertising *it, uint64_t delay)
     if (!it->has_sent && !has_news(it) && at < it->begun + QUIET)
         return;
     it->next = earlier(it->next, at < it->earliest ? it->earliest : at);
+    it->is_short = false;
 }
 
 /* What is to be advertised has changed: it is told as soon as may be, and then as often as at the start, since an
@@ -114,14 +118,7 @@ void watch_adverts(void)
     }
 }
 
-/* A number of 32 bits in the order of the network. */
-static uint32_t get(const uint8_t *at)
-{
-    uint32_t number;
-    memcpy(&number, at, sizeof number);
-    return ntohl(number);
-}
-
+/* Writes a number of 32 bits in the order of the network. */
 static void put(uint8_t *at, uint32_t number)
 {
     number = htonl(number);
@@ -147,13 +144,49 @@ static void lower(size_t length)
     for (uint8_t *option = room + HEAD; option < room + length; option += option[1] * 8) {
         if (option[0] != PREFIX)
             continue;
-        if (!settings.keeps_lifetimes && get(option + 4) > MOST_VALID)
+        if (!settings.keeps_lifetimes && number_at(option + 4) > MOST_VALID)
             put(option + 4, MOST_VALID);
         if (is_ending)
             put(option + 8, 0);
-        else if (!settings.keeps_lifetimes && get(option + 8) > MOST_PREFERRED)
+        else if (!settings.keeps_lifetimes && number_at(option + 8) > MOST_PREFERRED)
             put(option + 8, MOST_PREFERRED);
     }
+}
+
+/* Moves the prefixes that are not preferred, of an advertisement in the room, before the others. How many there are. */
+static size_t order(size_t length)
+{
+    uint8_t others[MOST_ADVERT];
+    size_t first = HEAD, rest = 0;
+    for (size_t place = HEAD; place < length; place += INFO) {
+        if (number_at(room + place + 8) == 0) {
+            memmove(room + first, room + place, INFO);
+            first += INFO;
+        } else {
+            memcpy(others + rest, room + place, INFO);
+            rest += INFO;
+        }
+    }
+    memcpy(room + first, others, rest);
+    return (first - HEAD) / INFO;
+}
+
+/* Puts a short advertisement into the room: one prefix, a departed one where there is no other. Whether that is done. */
+static bool make_short(const struct link *link, size_t *length)
+{
+    hn_departed gone;
+    if (!is_done(hn_router_advert(&router, link->endpoint, length, room, sizeof room), "advert"))
+        return false;
+    if (*length == HEAD && find_held(link, &gone)) {
+        const uint8_t head[] = {PREFIX, INFO / 8, gone.length, MAKES_ADDRESSES};
+        memset(room + HEAD, 0, INFO);
+        memcpy(room + HEAD, head, sizeof head);
+        put(room + HEAD + 4, gone.valid);
+        memcpy(room + HEAD + 16, gone.prefix, sizeof gone.prefix);
+        *length += INFO;
+    }
+    *length = *length > HEAD + INFO ? HEAD + INFO : *length;
+    return true;
 }
 
 /* Puts the hardware address of the link and the servers of names behind the options in the room. Returns the length. */
@@ -196,15 +229,18 @@ static unsigned send_parts(const struct link *link, size_t length)
     return parts;
 }
 
-/* Milliseconds until the next advertisement, after one that may have had no room for all. They are random, since all routers of
- * a link see a change at once: if two advertisements come together, Linux (6.18) may go on to prefer an address whose preferred
- * lifetime is 0, for up to two minutes or until the next one. */
-static uint64_t interval(struct advertising *it, bool is_full)
+/* Milliseconds until the next advertisement, after one that may have had no room for all, and may have had departed prefixes.
+ * They are random, since all routers of a link see a change at once: if two advertisements come together, a Linux host may
+ * overlook an address, too. */
+static uint64_t interval(struct advertising *it, bool is_full, bool has_departed)
 {
     if (is_full && it->turns < TURNS) {
         it->turns++;
         return LEAST_BETWEEN + draw_number(TURN_MORE);
     }
+    it->is_short = has_departed;
+    if (has_departed)
+        return LEAST_BETWEEN + draw_number(TURN_MORE);
     if (it->count < FIRST_ADVERTS) {
         it->count++;
         return FIRST_INTERVAL + draw_number(FIRST_MORE);
@@ -212,28 +248,38 @@ static uint64_t interval(struct advertising *it, bool is_full)
     return LEAST_INTERVAL + draw_number(MORE_INTERVAL);
 }
 
+/* Puts the whole advertisement of a link into the room. Whether that is done. */
+static bool make_whole(struct link *link, size_t *length)
+{
+    if (!is_done(hn_router_advertise(&router, link->endpoint, length, room, sizeof room - MOST_OPTIONS), "advertise"))
+        return false;
+    look(link);
+    return true;
+}
+
 /* Sends an advertisement on a link, as of now. One that fails is told, and tried again later; but not the last one. */
 static void advertise(struct link *link)
 {
     struct advertising *it = &link->adverts;
     size_t length = 0;
+    bool is_short = it->is_short && !is_ending;
     it->earliest = it->next = now() + LEAST_BETWEEN;
     it->is_over = is_ending;
-    if (!tick() || !is_done(hn_router_advertise(&router, link->endpoint, &length, room, sizeof room - MOST_OPTIONS),
-                            "advertise"))
+    if (!tick() || !(is_short ? make_short(link, &length) : make_whole(link, &length)))
         return;
-    bool is_full = length + INFO > MOST_PACKET;
-    look(link);
+    bool is_full = !is_short && length + INFO > MOST_PACKET;
+    bool has_departed = order(length) > 0 && !is_short;
     lower(length);
-    length = add_options(link, length);
+    length = is_short ? length : add_options(link, length);
     unsigned parts = send_parts(link, length);
     if (parts == 0)
         return;
-    say(OF_ADVERT, "advertised %s bytes=%zu%s%s", link->name, length, parts > 1 ? " in parts" : "", is_ending ? " last" : "");
+    say(OF_ADVERT, "advertised %s bytes=%zu%s%s", link->name, length, parts > 1 ? " in parts" : is_short ? " short" : "",
+        is_ending ? " last" : "");
     it->has_sent = true;
     look_at_state();
     it->earliest = now() + LEAST_BETWEEN;
-    it->next = now() + interval(it, is_full);
+    it->next = now() + interval(it, is_full, has_departed);
 }
 
 /* Whether options are well formed. One of the source's hardware address may be forbidden. */
@@ -270,7 +316,7 @@ static void take_advert(const struct arrival *it)
         return;
     for (const uint8_t *option = room + HEAD; option < room + it->length; option += option[1] * 8) {
         struct prefix prefix = {.length = option[2]};
-        if (option[0] != PREFIX || option[1] != INFO / 8 || get(option + 8) != 0)
+        if (option[0] != PREFIX || option[1] != INFO / 8 || number_at(option + 8) != 0)
             continue;
         memcpy(prefix.bits, option + 16, 16);
         const uint8_t *held = own->length < HEAD ? NULL : find_info(own->bytes + HEAD, own->length - HEAD, &prefix);
@@ -318,9 +364,10 @@ void send_adverts(void)
 bool end_adverts(void)
 {
     bool are_over = true;
+    hn_departed held;
     is_ending = true;
     for (struct link *link = links; link < links + link_count; link++) {
-        link->adverts.is_over |= !link->adverts.has_sent && !has_departed(link);
+        link->adverts.is_over |= !link->adverts.has_sent && !find_held(link, &held);
         if (!is_advertising(link) || link->adverts.is_over)
             continue;
         link->adverts.next = link->adverts.earliest;

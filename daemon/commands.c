@@ -17,6 +17,10 @@ static const char *obey_to(const char *line, FILE *to)
         return read_delegation(line + 9, &given) ? add_uplink(&given) : "delegate takes PREFIX/LENGTH VALID PREFERRED";
     if (strncmp(line, "withdraw ", 9) == 0)
         return read_prefix(line + 9, &given.prefix) ? remove_uplink(&given.prefix) : "withdraw takes PREFIX/LENGTH";
+    if (strncmp(line, "ula ", 4) == 0) {
+        bool is_on = strcmp(line + 4, "on") == 0;
+        return is_on || strcmp(line + 4, "off") == 0 ? set_ula(is_on) : "ula takes on or off";
+    }
     if (strcmp(line, "show") == 0 || strcmp(line, "show json") == 0) {
         tick();
         report();
@@ -24,7 +28,7 @@ static const char *obey_to(const char *line, FILE *to)
         return NULL;
     }
     if (strcmp(line, "quit") != 0)
-        return "no command; there are delegate, withdraw, show, show json and quit";
+        return "no command; there are delegate, withdraw, ula, show, show json and quit";
     is_told_to_end = true;
     return NULL;
 }

@@ -45,6 +45,7 @@ struct advertising {
     unsigned count, turns;   /* how many were sent since the last change, but for those that had no room for all; and these */
     uint64_t begun;          /* since when it advertises here */
     uint64_t earliest, next; /* when the next one may be sent, and when it is due, which is not before that */
+    bool is_short;           /* the next one has one prefix alone */
     bool has_sent;           /* one was sent, be it long ago */
     bool is_over;            /* the last one of all was sent */
     uint8_t bytes[MOST_ADVERT];
@@ -83,7 +84,7 @@ struct arrival {
 /* What the options say. */
 struct settings {
     uint32_t id;
-    bool has_id, advertises, routes, forwards, answers_own_port, keeps_lifetimes, to_syslog;
+    bool has_id, advertises, routes, forwards, answers_own_port, keeps_lifetimes, makes_ula, to_syslog;
     const char *control, *command, *user, *kept;
     uint64_t ends;
     struct delegation uplinks[MOST_PREFIXES];
@@ -117,6 +118,15 @@ const char *address_text(const uint8_t address[16]);
 bool read_number(const char *text, uint32_t most, uint32_t *number);
 bool read_prefix(const char *text, struct prefix *it);
 bool read_delegation(const char *text, struct delegation *it);
+
+/* tlv.c */
+struct tlv {
+    unsigned kind;
+    const uint8_t *value;
+    size_t length;
+};
+uint32_t number_at(const uint8_t *at);
+bool next_tlv(const uint8_t **at, const uint8_t *end, struct tlv *it);
 
 /* log.c: lines of one kind are limited to some in a second. */
 enum kind { OF_COMMAND, OF_STATE, OF_ASSIGNMENT, OF_LINK, OF_ROUTE, OF_ADVERT, OF_NOTE, OF_STRAY, OF_SEND, OF_FILE, OF_CALL, KINDS };
@@ -211,6 +221,7 @@ void read_state(void);
 void begin_state(void);
 void remember(const hn_assigned *it);
 void look_at_state(void);
+void keep_state(void);
 void follow_state(void);
 uint64_t state_due(void);
 void end_state(void);
@@ -225,7 +236,19 @@ bool has_written(const char **why);
 const char *add_uplink(const struct delegation *it);
 const char *remove_uplink(const struct prefix *prefix);
 bool remove_uplinks(void);
+bool has_uplink(const struct prefix *prefix);
 void write_uplinks(void (*write)(FILE *, const struct prefix *, uint64_t, uint64_t), FILE *to);
+
+/* ula.c: a ULA prefix of the router's own making. */
+bool take_ula(const struct prefix *it, bool was_made);
+void forget_ula(void);
+const struct prefix *own_ula(bool *made);
+void begin_ula(void);
+void hear_nodes(size_t length);
+void follow_ula(void);
+uint64_t ula_due(void);
+const char *set_ula(bool is_wanted);
+void end_ula(void);
 
 /* commands.c: a line of input gives the text of a reply, which is to be freed; its last line says how it went. */
 char *obey(const char *line);

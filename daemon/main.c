@@ -2,8 +2,8 @@
  *
  * The library decides. Here are the clock and the loop; log.c has the lines, links.c the interfaces, sockets.c what is sent
  * and what arrives, netlink.c what is asked of the system, routes.c addresses and routes, adverts.c Router Advertisements,
- * held.c replies that wait, commands.c and control.c the commands, uplinks.c the prefixes that are delegated here, state.c and
- * file.c what is kept over a restart. */
+ * held.c replies that wait, commands.c and control.c the commands, uplinks.c the prefixes that are delegated here, ula.c that of
+ * the router's own making, state.c and file.c what is kept over a restart. */
 #include "hnd.h"
 
 #include <errno.h>
@@ -52,7 +52,7 @@ static void take_signal(void)
 /* Milliseconds until something is due, or until a moment. */
 static int wait_until(uint64_t until)
 {
-    uint64_t at = now(), dues[] = {router_due(), held_due(), links_due(), routes_due(), adverts_due(), state_due(), log_due()};
+    uint64_t at = now(), dues[] = {router_due(), held_due(), links_due(), routes_due(), adverts_due(), state_due(), ula_due(), log_due()};
     until = earlier(until, at + LONGEST_WAIT);
     for (size_t place = 0; place < sizeof dues / sizeof dues[0]; place++)
         until = earlier(until, dues[place]);
@@ -114,12 +114,14 @@ static void begin(void)
         if (why != NULL)
             fail(FAILED, "-p", why);
     }
+    begin_ula();
 }
 
 /* Withdraws the own delegated prefixes. If there were some, the router lives on until others have heard of it and asked.
  * Then hosts are told, and addresses and routes go. */
 static void finish(void)
 {
+    end_ula();
     bool were_some = remove_uplinks();
     tick();
     for (uint64_t until = were_some ? now() + LINGER : 0; now() < until;)

@@ -40,6 +40,7 @@ static bool take_flag(int option)
     case 'P': return settings.answers_own_port = true;
     case 'r': return settings.routes = true;
     case 's': return settings.to_syslog = true;
+    case 'U': return settings.makes_ula = true;
     default: return false;
     }
 }
@@ -75,7 +76,7 @@ static bool take_value(int option)
 void read_options(int count, char **words)
 {
     opterr = 0;
-    for (int option; (option = getopt(count, words, "+ac:d:fi:k:Lp:Prst:u:x:")) != -1;) {
+    for (int option; (option = getopt(count, words, "+ac:d:fi:k:Lp:Prst:u:Ux:")) != -1;) {
         const char unknown[] = {'-', (char)optopt, '\0'};
         if (option == '?' || (!take_flag(option) && !take_value(option)))
             fail(BAD_ARGUMENTS, option == '?' ? unknown : optarg, wanted(option));

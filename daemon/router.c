@@ -43,10 +43,10 @@ bool is_done(uint8_t status, const char *call)
 /* Whether the datagram in the room asks for the network state. */
 static bool is_request(size_t count)
 {
-    for (size_t place = 0; place + 4 <= count;) {
-        if ((room[place] << 8 | room[place + 1]) == REQUEST_NETWORK)
+    const uint8_t *at = room;
+    for (struct tlv it; next_tlv(&at, room + count, &it);) {
+        if (it.kind == REQUEST_NETWORK)
             return true;
-        place += 4 + ((size_t)(room[place + 2] << 8 | room[place + 3]) + 3) / 4 * 4;
     }
     return false;
 }
@@ -207,8 +207,11 @@ enum received take_datagram(void)
     enum received received = receive(udp, &it);
     if (received != PACKET || !is_near(&it, &is_multicast))
         return received;
-    follow(hn_router_arrive(&router, now(), it.link->endpoint, is_multicast, it.from.sin6_addr.s6_addr,
-                            ntohs(it.from.sin6_port), room, it.length), "arrive", it.link, is_multicast);
+    uint8_t status = hn_router_arrive(&router, now(), it.link->endpoint, is_multicast, it.from.sin6_addr.s6_addr,
+                                      ntohs(it.from.sin6_port), room, it.length);
+    if (status == HN_DONE)
+        hear_nodes(it.length);
+    follow(status, "arrive", it.link, is_multicast);
     return received;
 }
 
@@ -331,12 +334,19 @@ void want_report(void)
     is_changed = true;
 }
 
+/* Whether something is to be told, or to be followed. */
+static bool is_report_due(void)
+{
+    return is_changed || earlier(earlier(routes_due(), state_due()), earlier(ula_due(), untold)) <= now();
+}
+
 /* Tells what events have changed, and has the system follow: addresses, routes, advertisements. Addresses that are set
  * are an event of their own. */
 void report(void)
 {
-    for (unsigned times = 0; times < 3 && (is_changed || earlier(earlier(routes_due(), state_due()), untold) <= now()); times++) {
+    for (unsigned times = 0; times < 3 && is_report_due(); times++) {
         is_changed = false;
+        follow_ula();
         tell_state();
         tell_assignments();
         follow_routes(told.assigned, told.assigned_count);

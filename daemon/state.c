@@ -1,5 +1,6 @@
-/* What is kept over a restart: the identifier, the prefix that each link had in each delegated prefix, and the prefixes that
- * hosts were told of, each with the moment at which they forget it. It stands in the file of -k (file.c). */
+/* What is kept over a restart: the identifier, the ULA prefix and whether it was made, the prefix that each link had in each
+ * delegated prefix, and the prefixes that hosts were told of, each with the moment at which they forget it. It stands in the
+ * file of -k (file.c). */
 #include "hnd.h"
 
 #include <inttypes.h>
@@ -126,8 +127,11 @@ static bool take_line(const char *line)
     struct prefix delegated, prefix;
     struct link *link;
     uint64_t end;
+    unsigned made;
     if (sscanf(line, "written %20" SCNu64 " %c", &written, &more) == 1 || sscanf(line, "identifier %8" SCNx32 " %c", &kept_id, &more) == 1)
         return true;
+    if (sscanf(line, "ula %63s %1u %c", first, &made, &more) == 2)
+        return read_prefix(first, &prefix) && take_ula(&prefix, made != 0);
     if (sscanf(line, "prefix %15s %63s %63s %c", name, first, second, &more) == 3) {
         if (!read_prefix(first, &delegated) || !read_prefix(second, &prefix))
             return false;
@@ -149,6 +153,7 @@ void read_state(void)
     const char *why = read_file(take_line);
     if (why != NULL) {
         remembered_count = waiting_count = 0;
+        forget_ula();
         say(OF_FILE, "unused %s why=\"%s\"", settings.kept, why);
     } else {
         say(OF_FILE, "used %s prefixes=%zu told=%zu", settings.kept, remembered_count, waiting_count);
@@ -169,6 +174,12 @@ void begin_state(void)
 void look_at_state(void)
 {
     is_unseen = true;
+}
+
+/* The file has to be written. */
+void keep_state(void)
+{
+    is_news = true;
 }
 
 /* What stands in the file of a prefix of a link, or nothing. */
@@ -238,7 +249,11 @@ static void write_told(FILE *to, const struct told *it)
 /* Writes the lines of the file. */
 static void write_lines(FILE *to)
 {
+    bool is_made;
+    const struct prefix *ula = own_ula(&is_made);
     fprintf(to, "written %" PRIu64 "\nidentifier %08" PRIx32 "\n", wall(), kept_id);
+    if (ula != NULL)
+        fprintf(to, "ula %s %d\n", text_of(ula->bits, ula->length), is_made);
     for (size_t place = 0; place < remembered_count; place++)
         fprintf(to, "prefix %s %s %s\n", remembered[place].link->name,
                 text_of(remembered[place].delegated.bits, remembered[place].delegated.length),

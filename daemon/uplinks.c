@@ -35,6 +35,13 @@ static void forget_ended(void)
     }
 }
 
+/* Whether a prefix is delegated here. */
+bool has_uplink(const struct prefix *prefix)
+{
+    forget_ended();
+    return place_of(prefix) < count;
+}
+
 /* The moment at which a lifetime in seconds ends. */
 static uint64_t end_of(uint32_t lifetime)
 {

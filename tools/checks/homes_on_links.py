@@ -368,8 +368,19 @@ class Home:
         self.must_rest('healed')
 
     def play_uplink(self):
-        """The uplink delegates another prefix, with the words of a DHCPv6 client."""
+        """The uplink delegates another prefix, with the words of a DHCPv6 client. A host of the first link listens how it is told."""
+        words = ['ip', 'netns', 'exec', self.space('h0'), 'python3', os.path.join(HERE, 'stranger.py'), 'listen', 'l0', str(2 * SETTLES)]
         self.delegated = [SECOND]
+        with subprocess.Popen(words, stdout=subprocess.PIPE) as listening:
+            try:
+                self.change_uplink()
+                heard = listening.communicate()[0].decode().split()
+            finally:
+                listening.kill()
+        must(heard, f'{self.name}: no short advertisement follows one of a departed prefix')
+        self.tools.short.append(float(heard[0]))
+
+    def change_uplink(self):
         given = dict(os.environ, HND=self.tools.daemon, SOCKET=self.routers[1].socket, PREFIXES=f'{SECOND},3600,7200')
         done = subprocess.run([os.path.join(TOP, 'daemon', 'system', 'odhcp6c.sh'), 'wan', 'updated'], env=given, stderr=subprocess.PIPE)
         must(done.returncode == 0, f'{self.name}: odhcp6c.sh ends with status {done.returncode}: {done.stderr.decode("utf-8", "replace")}')
@@ -411,7 +422,8 @@ class Home:
         """A stranger comes with 32 prefixes that never end, then with 32 others, and goes."""
         done = subprocess.run(self.stranger('prefixes', STRANGER), stdout=subprocess.PIPE, stderr=subprocess.PIPE)
         must(done.returncode == 0, f'{self.name}: stranger.py: {done.stderr.decode("utf-8", "replace").strip()[-200:]}')
-        longest, fragments = map(int, done.stdout.split())
+        longest, fragments, disordered, departed = map(int, done.stdout.split())
+        must(not disordered and departed, f'{self.name}: {disordered} advertisements have a departed prefix behind others; told are {departed}')
         must(longest > SEVERAL, f'{self.name}: no prefix of the stranger is advertised')
         must(longest <= MOST_ADVERT and not fragments, f'{self.name}: an advertisement of {longest} bytes, {fragments} fragments')
         self.tools.longest.append(longest)
@@ -423,7 +435,7 @@ class Home:
             return
         link = len(self.members) - 1
         with ONE_FLOOD:
-            done = subprocess.run(['ip', 'netns', 'exec', self.space(f'h{link}'), self.tools.flood, f'l{link}', *map(str, FLOOD)],
+            done = subprocess.run(['nice', '-n', '-20', 'ip', 'netns', 'exec', self.space(f'h{link}'), self.tools.flood, f'l{link}', *map(str, FLOOD)],
                                   stdout=subprocess.PIPE)
             must(done.returncode == 0, f'{self.name}: the flood ends with status {done.returncode}')
         count, seconds = done.stdout.decode().split()
@@ -473,7 +485,7 @@ class Tools:
         self.daemon, self.options = os.environ.get('HND') or built(folder), os.environ.get('HND_OPTIONS', '').split()
         self.babel, self.flood = shutil.which('babeld'), flood(folder)
         self.most = collections.Counter()
-        self.flooded, self.lost, self.longest = [], [], []
+        self.flooded, self.lost, self.longest, self.short = [], [], [], []
 
 
 def built(folder):
@@ -520,6 +532,14 @@ def chosen():
     return [name.split('-') for name in names if name in wanted]
 
 
+def slowest(moments):
+    """The longest time of each step, of all homes, as text."""
+    longest = {}
+    for name, seconds in moments:
+        longest[name] = max(seconds, longest.get(name, 0))
+    return ', '.join(f'{seconds:.0f} s ({name})' for name, seconds in longest.items())
+
+
 def check_homes(folder):
     """Each home is played; they run at the same time."""
     must_have_namespaces()
@@ -533,11 +553,8 @@ def check_homes(folder):
         with concurrent.futures.ThreadPoolExecutor(len(homes)) as pool:
             playing = [pool.submit(home.play) for home in homes]
             moments = [moment for each in playing for moment in each.result()]
-    slowest = {}
-    for name, seconds in moments:
-        slowest[name] = max(seconds, slowest.get(name, 0))
-    text = f'{len(homes)} homes; hosts were right after at most ' + ', '.join(f'{seconds:.0f} s ({name})' for name, seconds in slowest.items())
+    text = f'{len(homes)} homes; hosts were right after at most {slowest(moments)}'
     text += f'; {tools.most["VmRSS"]} kB at rest, {tools.most["VmHWM"]} kB at most'
     text += f'; {min(tools.flooded):.0f} datagrams a second of garbage' if tools.flooded else '; no garbage: there is no cc'
-    text += f'; advertisements of at most {max(tools.longest)} bytes; {max(tools.lost)} lines lost of a log that nobody read'
+    text += f'; advertisements of at most {max(tools.longest)} bytes, a short one within {max(tools.short):.0f} s; {max(tools.lost)} lines lost of a log that nobody read'
     return text + ('' if tools.babel else '; no host was asked for an echo: there is no babeld')

@@ -9,9 +9,12 @@ import unittest
 from typing import Dict, List, Set
 from unittest import mock
 
+import headline_beside
+import headline_rest
 import headline_text
 from headline_compare import difference, items
-from headline_page import HALVES, Headline, NoSuchSign, others, page
+from headline_found import HALVES, Headline, NoSuchSign, others
+from headline_page import DATA, pages
 from sources.closure import Node, NotFound, Sources
 
 ROOT = os.path.dirname(os.path.dirname(os.path.abspath(__file__)))
@@ -128,6 +131,11 @@ def fill(root: str, files: Dict[str, str]) -> Sources:
     return Sources(root)
 
 
+def page(sources: Sources) -> str:
+    """Both pages, one after the other."""
+    return '\n'.join(pages(sources).values())
+
+
 class OfSmallSources(unittest.TestCase):
     """What is read from small sources."""
 
@@ -219,6 +227,7 @@ class OfThisRepository(unittest.TestCase):
                 source = os.path.join(ROOT, 'crates', crate, part)
                 if os.path.isdir(source):
                     shutil.copytree(source, os.path.join(cls.root, 'crates', crate, part))
+        shutil.copytree(os.path.join(ROOT, 'crates', DATA), os.path.join(cls.root, 'crates', DATA))
         cls.sources = Sources(cls.root)
         cls.headline = Headline(cls.sources)
         cls.page = page(cls.sources)
@@ -253,7 +262,7 @@ class OfThisRepository(unittest.TestCase):
             return source.read()
 
     def differs(self) -> str:
-        """How the page of the changed copy differs."""
+        """How the pages of the changed copy differ."""
         return str(difference(self.page, page(Sources(self.root))))
 
     def test_each_line_of_each_definition_is_read(self) -> None:
@@ -291,50 +300,79 @@ class OfThisRepository(unittest.TestCase):
 
     def test_a_choice_that_chooses_nothing_is_refused(self) -> None:
         """A definition that the page leaves out, or shows of a clause that stands alone, and that is not of it."""
-        for choice in (headline_text.IN_WORDS, headline_text.ALONE):
+        for choice in (headline_rest.IN_WORDS, headline_beside.ALONE):
             with mock.patch.dict(choice, {'hn_typed/specs/Item.antt': 'IsNowhere'}):
-                with self.assertRaisesRegex(NotFound, 'hn_typed/specs/Item.antt: IsNowhere, which checks/headline_text.py'):
+                with self.assertRaisesRegex(NotFound, 'hn_typed/specs/Item.antt: IsNowhere, which a text of checks/ names'):
                     page(self.sources)
+        part = headline_text.Part('Nothing.', ('hn_lab/specs/Play.antt: IsPlay',))
+        with mock.patch.object(headline_text, 'FIRST', headline_text.FIRST + (part,)):
+            with self.assertRaisesRegex(NotFound, 'hn_lab/specs/Play.antt: IsPlay, which a text of checks/ names, of the halves'):
+                page(self.sources)
 
     def test_a_sentence_for_nothing_is_refused(self) -> None:
-        """A sentence for a definition that is not shown, or not named; and a type that is not one of those named."""
-        for choice in (headline_text.SENTENCES, headline_text.GLOSSES):
+        """A sentence for a definition that is not shown, or not named; a type that is not one of those named; and a field."""
+        for choice in (headline_rest.SENTENCES, headline_beside.SENTENCES, headline_text.GLOSSES, headline_rest.GLOSSES,
+                       headline_beside.GLOSSES):
             with mock.patch.dict(choice, {'hn_typed/specs/Item.antt: IsNowhere': 'nothing'}):
-                with self.assertRaisesRegex(NotFound, 'hn_typed/specs/Item.antt: IsNowhere, which checks/headline_text.py'):
+                with self.assertRaisesRegex(NotFound, 'hn_typed/specs/Item.antt: IsNowhere, which a text of checks/ names'):
                     page(self.sources)
-        with mock.patch.object(headline_text, 'TYPES', (('hn_assign/src/assigned.rt', 'Wish'),)):
-            with self.assertRaisesRegex(NotFound, 'hn_assign/src/assigned.rt: Wish, which checks/headline_text.py'):
+        with mock.patch.object(headline_rest, 'TYPES', (('hn_assign/src/assigned.rt', 'Wish'),)):
+            with self.assertRaisesRegex(NotFound, 'hn_assign/src/assigned.rt: Wish, which a text of checks/ names'):
+                page(self.sources)
+        field = headline_text.Field('a key', 'hn_base/src/key.rt: Key', 'priority length', 'nothing')
+        with mock.patch.object(headline_text, 'FIELDS', (field,)):
+            with self.assertRaisesRegex(NotFound, 'length of hn_base/src/key.rt: Key, which a text of checks/ names'):
                 page(self.sources)
 
     def test_each_definition_that_is_left_out_has_a_sentence(self) -> None:
         """What the shown text names and does not show has one sentence and its file, where it is named first."""
         sentences = re.findall(r'^(?:\.\.\.|-) `?([^\s`]+?)`?: [^\n]{8,} \(`?([^\s`]+\.antt)`?\)\.?$', self.page, re.MULTILINE)
-        self.assertEqual(sorted((file, name) for name, file in sentences), self.headline.named())
-        before = self.page.split('... HasAssignment: ', 1)[0]
-        self.assertIn('HasAssignment', before.split('pub record Rests ', 1)[1])
-        self.assertNotIn('HasAssignment', before.split('pub record Rests ', 1)[0])
+        cited, named = self.headline.named_beside()
+        left = [*cited, *(node for nodes in (self.headline.named_behind(), named) for part in nodes.values() for node in part)]
+        self.assertEqual(sorted((file, name) for name, file in sentences), sorted(left))
+        before = self.page.split('... remaining: ', 1)[0]
+        self.assertIn(' remaining ', before.split('pub record SeesAnnounced ', 1)[1])
+        self.assertNotIn(' remaining ', before.split('pub record SeesAnnounced ', 1)[0].split('```text')[-1])
+
+    def test_the_first_part_puts_in_words_what_it_names(self) -> None:
+        """Each definition that the first part names and does not show has one line there, and is shown behind it."""
+        first, behind = self.page.split('\n## The others\n', 1)
+        lines = re.findall(r'^\.\.\. (\S+): \S', first, re.MULTILINE)
+        self.assertEqual(lines, [node.name for node in self.headline.named_first()])
+        for name in lines:
+            self.assertRegex(behind, r'(?m)^(?:abbrev pub|unfoldable pub|pub record|pub data) %s ' % re.escape(name))
 
     def test_a_definition_without_a_sentence_is_refused(self) -> None:
         """One that is named and not shown, which has no comment and no sentence of the page."""
-        comment = '-- a router holds of another exactly its sequence number and its node data'
-        self.change('hn_audit/specs/Settled.antt', '\n%s\npub record HoldsState' % comment, '\npub record HoldsState')
-        with self.assertRaisesRegex(NotFound, 'a comment of hn_audit/specs/Settled.antt: HoldsState, or a sentence'):
+        comment = '-- the node data of the leaf in this place'
+        self.change('hn_hash/specs/Agreement.antt', '\n%s\nabbrev pub body_at' % comment, '\nabbrev pub body_at')
+        with self.assertRaisesRegex(NotFound, 'a comment of hn_hash/specs/Agreement.antt: body_at, or a sentence'):
             page(Sources(self.root))
 
     def test_a_changed_sentence_is_named(self) -> None:
         """A comment of a definition that is named and not shown: its first line is its sentence."""
-        self.change('hn_audit/specs/Settled.antt', '-- a router holds of another exactly', '-- a router holds of another')
-        self.assertEqual(self.differs(), 'hn_audit/specs/Settled.antt: the sentence for HoldsState changed')
+        self.change('hn_hash/specs/Agreement.antt', '-- the node data of the leaf in this', '-- the data of the leaf in this')
+        self.assertEqual(self.differs(), 'hn_hash/specs/Agreement.antt: the sentence for body_at changed')
 
-    def test_types_and_words_come_first(self) -> None:
-        """The order of the page: what the definitions use stands before them."""
-        heads = re.findall('^## (.*)$', self.page, re.MULTILINE)
-        self.assertEqual(heads, ['The program', 'The words', 'The clauses', 'The signs', 'The types', 'The definitions',
-                                 'Questions that readers asked', 'The others', 'The counts'])
+    def test_words_and_signs_come_first(self) -> None:
+        """The order of the page: what the definitions use stands before them, and the first part before all else."""
+        heads = re.findall('^## (.*)$', pages(self.sources)['HEADLINE.md'], re.MULTILINE)
+        self.assertEqual(heads, ['What is claimed', 'Two routers', 'The signs', 'The fields', 'The definitions', 'The others',
+                                 'The counts'])
+
+    def test_the_sample_is_that_of_the_transcripts(self) -> None:
+        """The script and the transcript are files that checks/transcripts compares; without one there is no page."""
+        for kind in ('script', 'transcript'):
+            path = os.path.join(self.root, 'crates', DATA, '%s.%s' % (headline_text.SAMPLE, kind))
+            with open(path, encoding='utf-8') as file:
+                self.assertIn('\n```text\n%s```\n' % file.read(), self.page)
+        with mock.patch.object(headline_text, 'SAMPLE', 'a_script_of_no_name'):
+            with self.assertRaisesRegex(NotFound, 'a_script_of_no_name.script'):
+                page(self.sources)
 
     def test_a_changed_comment_of_a_shown_definition_is_named(self) -> None:
         """The comment above a definition is a part of the page."""
-        node = next(node for node in self.headline.shown if self.sources.entity(node).shown[0].startswith('-- '))
+        node = next(node for node in self.headline.behind if self.sources.entity(node).shown[0].startswith('-- '))
         comment = self.sources.entity(node).shown[0]
         self.change(node.file, comment, comment + ' indeed')
         self.assertEqual(self.differs(), '%s changed' % node.place)
@@ -383,7 +421,7 @@ class OfThisRepository(unittest.TestCase):
         """A page that lacks a file, or a definition, and one that has it."""
         files = [node.file for node in sorted(self.headline.listed)]
         file = next(file for file in files if items(self.page)[file].strip() + '; ' in self.page)
-        shown = self.headline.shown[1]
+        shown = self.headline.behind[0]
         text = '\n'.join(self.sources.entity(shown).shown) + '\n\n'
         for name, lacking in ((file, items(self.page)[file].strip() + '; '), (shown.place, text)):
             without = self.page.replace(lacking, '', 1)

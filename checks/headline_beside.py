@@ -80,23 +80,20 @@ A Router Advertisement has only prefixes of assignments that are applied: `hn_ro
 """What stands before a definition, by its place."""
 
 GLOSSES = {
-    'hn_audit/specs/Laws.antt: ElectAlike':
-        'on a link of the set all routers see the same one elected for each capability, or all see nobody',
+    'hn_audit/specs/Calm.antt: AreWaitingCurrent': 'each copy that waits for one of the set is current: it says the network state hash of its receiver',
+    'hn_audit/specs/Heard.antt: ArePeersLinked': 'each peer of each of the set is an endpoint of another of the set, on one link with it',
+    'hn_audit/specs/Heard.antt: AreSendsHeard':
+        'what each endpoint of the set last sent was heard by each endpoint on its link that has it as a peer, or waits for that one',
+    'hn_audit/specs/Lasting.antt: GoesTimely': 'events one after another, each of them timely',
+    'hn_world/specs/Names.antt: router_place': 'the place of the router of a name, in the order of definition',
     'hn_audit/specs/Quiet.antt: IsQuietByRules': 'as IsQuiet of HEADLINE, as the rules find it',
     'hn_audit/specs/Settled.antt: IsSettledByRules': 'as IsSettled of HEADLINE, as the rules find it',
-    'hn_audit/specs/Lasting.antt: IsLastingHome':
-        'until a moment no delegated prefix of one of the set ends, no lifetime that one of them sees, and node data are young; '
-        'and each running router is of the set',
-    'hn_audit/specs/Staying.antt: IsCalm': 'the event is calm for r, as the list of words says',
     'hn_lab/specs/Output.antt: IsFrontOf': 'the first text is a front of the second',
     'hn_lab/specs/Play.antt: begun':
         'where the play of a script begins: nothing has happened, no copy is lost, each random number is 0, no endpoint sends '
         'Router Advertisements, and there is no text',
     'hn_lab/specs/Lab.antt: IsLabRun': 'the status, the world and the text are those of a play of the bytes that were read, or of their first fault',
     'hn_lab/specs/Told.antt: bytes_of': 'the lines of a text, one after another',
-    'hn_told/specs/Told.antt: AreToldApart':
-        'on different links no two prefixes overlap that Router Advertisements tell; on one link two that overlap are one; '
-        'and each router on the link holds it',
     'hn_world/specs/Replay.antt: IsReplayed': 'the world is the replay of its own trace',
     'hn_world/specs/Within.antt: AreWithinLimits':
         'each router, and each copy of a datagram that was ever sent, is within the limits that MODEL lists',
@@ -113,6 +110,8 @@ KEY = (
     Row('`{A : Type 0} → T`', '{ : }', 'for each type `A`. It is not written where the name is used: `Some! P`'),
     Row('`Some!`', '!', 'a name. The `!` is a part of it'),
     Row('`⊥`', '⊥', 'what is never so'),
+    Row('`f _ = a`, `Unit {0}`', '_ Unit', 'in all other cases; what always holds'),
+    Row('`a - b`, `true`', '- true', 'the difference, or 0; yes'),
     Row('`slice_get xs k ≡ Some x`', 'slice_get', '`x` is the element of `xs` at place `k`, from 0'),
 )
 """The key of the signs that only these clauses and their definitions use."""

@@ -24,7 +24,7 @@ OVER_TIME = ('hn_world/specs/Replay.antt: Always', 'hn_world/specs/Replay.antt: 
 """The definitions that say of which worlds a half is said. What is said of one world does not rest on them."""
 NEAR = 2
 """How many steps from the halves a definition is shown."""
-NEAR_BESIDE = 0
+NEAR_BESIDE = 1
 """How many steps from the clauses beside them."""
 MARK = 4
 """How many digits the mark of a definition has."""

@@ -35,7 +35,7 @@ For a reader who knows HNCP and doubts the claim. Up to "The others" the page ta
 
 ## What is claimed
 
-The program `hncp` simulates homes. It reads a **script**: routers, links, and what happens to them. Its form `lab` plays a given script, and its form `soak` one of its own making. The form `udp` also sends each delivered datagram over a loopback socket.
+The program `hncp` simulates homes. It reads a **script**: routers, links, and what happens to them. The word after `hncp` chooses its **form**: `lab` plays a given script, `soak` one of its own making, and `udp` also sends each delivered datagram over a loopback socket.
 
 All forms call one function, `run`. A named promise of `run` is a **clause**, and is proved for every script and seed. Two clauses are the headline:'''
 
@@ -47,16 +47,16 @@ Both are said of the home at the end of the play, `result.world`, and of each ea
 | Word | Means |
 |---|---|
 | world | The whole home at one moment: routers, links, datagrams under way |
-| trace | All events so far, as the script asked for them: deliveries, losses, repeats, forged datagrams, restarts, changes of links, and ticks, at which one router looks at its timers |
+| trace | All events so far, as the script and its seed brought them: deliveries, losses, repeats, forged datagrams, restarts, changes of links, and ticks, at which one router looks at its timers |
 | set of a router | The running routers that it reaches over peers (RFC 7787, section 4.6), itself too |
 | used | A router uses a delegated prefix d if it sees d announced, the valid lifetime has not ended, d has at most 64 bits, and d is inside no other such prefix. Of more than 32 it uses the first 32 |
 | not wanted | A used d whose preferred lifetime has ended, while that of another used one has not |
 | post | What a router asks prefixes for: an endpoint, or its private link, where no other router is (RFC 7695, section 2). The private link counts as endpoint 0 |
-| assignment | The prefix that a router has for a post and a used d. One router on a link publishes it in its node data, the others there adopt it |
+| assignment | The prefix that a router has for a post and a used d. The router publishes it in its node data, or adopted it from another one on the link |
 
 - **Settled**: each identifier that the router reaches is that of exactly one running router. All of its set reach the same, hold each other's node data as these now are, use the same delegated prefixes, and want the same of these. Two endpoints of the set name each other as peers if and only if they are on one link. No other running router is on a link of the set.
 - **Quiet**: none of the set would make, change or destroy an assignment.
-- **Sound**: each assignment is inside a used d. For each used d, each link of the set has one prefix, or goes without. One prefix: all posts there have it, and exactly one publishes it. Without: no post there has one, and each one's router does not want d, or sees nothing free in d. Prefixes of different links do not overlap.
+- **Sound**: each assignment is inside a used d. For each used d, each link where the set has a post has one prefix, or goes without. One prefix: all posts there have it, and exactly one publishes it. Without: no post there has one, and the router of each does not want d, or sees nothing free in d. Prefixes of different links do not overlap.
 
 **Not claimed:**
 
@@ -143,7 +143,7 @@ A router is quiet if each of its set rests.''', (
 
 A router rests if each assignment is for a used d and a post (`pairs`), and each post and used d is in one of three cases (`each`). It has an assignment that stays ahead; it has one that stays behind; or it goes without, and has no rival. No router has two assignments for one post and d.''', (
         'hn_plain/specs/Plain.antt: Rests',)),
-    Part('''Ahead: it is published and valid, and its key is above that of the best rival, if there is one. Behind: it is not published, and has the best rival's prefix. That one's publisher rests too, and sees whether the prefix is valid.''', (
+    Part('''Ahead: it is published and valid, and its key is above that of the best rival, if there is one. Behind: it is not published, and has the best rival's prefix (RFC 7695 calls it adopted). Validity is asked of the router that publishes that prefix, which rests too.''', (
         'hn_plain/specs/Plain.antt: StaysAhead', 'hn_plain/specs/Plain.antt: StaysBehind')),
 )
 """The definitions of the first part, in its order."""

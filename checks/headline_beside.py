@@ -88,7 +88,7 @@ GLOSSES = {
     'hn_world/specs/Names.antt: router_place': 'the place of the router of a name, in the order of definition',
     'hn_audit/specs/Quiet.antt: IsQuietByRules': 'as IsQuiet of HEADLINE, as the rules find it',
     'hn_audit/specs/Settled.antt: IsSettledByRules': 'as IsSettled of HEADLINE, as the rules find it',
-    'hn_lab/specs/Output.antt: IsFrontOf': 'the first text is a front of the second',
+    'hn_streams/specs/Output.antt: IsFrontOf': 'the first text is a front of the second',
     'hn_lab/specs/Play.antt: begun':
         'where the play of a script begins: nothing has happened, no copy is lost, each random number is 0, no endpoint sends '
         'Router Advertisements, and there is no text',

@@ -2,8 +2,8 @@
 from headline_text import Row
 
 IN_WORDS = {
-    'hn_audit/specs/Quiet.antt': 'IsQuiet',
-    'hn_audit/specs/Settled.antt': 'IsSettled',
+    'hn_audit/specs/Quiet.antt': 'IsQuietByRules',
+    'hn_audit/specs/Settled.antt': 'IsSettledByRules',
     'hn_world/specs/Replay.antt': 'Goes IsReplayed empty_world',
     'hn_world/specs/Within.antt': 'AreWithinLimits',
 }

@@ -14,7 +14,6 @@ mod RunSyncs
 mod TextLines
 mod TextReports
 mod LineEnds
-mod TextStreams
 mod Sendings
 mod PlayLines
 mod PlayScripts

@@ -38,12 +38,12 @@ pub use Rattle.hn_lab.specs.Existing.{ComesToAnEnd, GoesOn, IsFit, IsOn, ScriptH
 pub use Rattle.hn_lab.specs.Lab.{HasDonePlay, HasRefusal, IsBrokenPlay, IsLabOf, IsLabRun, IsWholePlay, Plays, StatusOfScript}
 pub use Rattle.hn_lab.specs.Laws.{AdvertIsUnique, AtMostOnePlay, CutTextsAreFronts, IsKnownRoute, IsUnbroken, ResultsAreUnique}
 pub use Rattle.hn_lab.specs.Line.{Delivered, EndsAs, EndsBy, Follows, LineEnds, Noted, OtherEnds, Sets, event_of, injection, receiver, report_of, seeded}
-pub use Rattle.hn_lab.specs.Output.{AppendsFront, AppendsPart, AreCut, IsCutText, joined}
+pub use Rattle.hn_lab.specs.Output.{AreCut, IsCutText, joined}
 pub use Rattle.hn_lab.specs.Play.{IsCut, IsCutPlay, IsPlay, LineSaid, LinesDone, StopsAt, begun}
 pub use Rattle.hn_lab.specs.PrefixReports.{AreUsedLines, IsElectLine, elect_line, prefix_line, used_lines}
 pub use Rattle.hn_lab.specs.Process.{EachProcess, Nothing, Process, ThenProcess, Times, Unless, Until}
 pub use Rattle.hn_lab.specs.Report.{Compares, IsAbout, IsReport, ReportEnds, Tells, mail_report, unless_elects, unless_report}
-pub use Rattle.hn_lab.specs.Reports.{compare_line, hash_line, refused_line, show_line}
+pub use Rattle.hn_lab.specs.Reports.{compare_line, hash_line, show_line}
 pub use Rattle.hn_lab.specs.Senders.{AreInOrder, IsSenderAt, is_sender_of, placed, sender_endpoints, sends_at, shape_of, without_sender}
 pub use Rattle.hn_lab.specs.Sending.{HasNoTurn, IsAsked, IsDue, IsSolicited, IsTurn, MayTurn, Solicits, TickEnds, TurnEnds, Turns, drawing, ended_sending, ending_all, line_if, ra_line, sending_now, starting}
 pub use Rattle.hn_lab.specs.Sending.{with_this}
@@ -78,6 +78,8 @@ pub use Rattle.hn_script.specs.Laws.{IsLimited}
 pub use Rattle.hn_script.specs.Line.{IsOfVersion}
 pub use Rattle.hn_script.specs.declared.line.Line.{Line}
 pub use Rattle.hn_script.specs.declared.script.Script.{Script}
+pub use Rattle.hn_streams.specs.Output.{AppendsFront, AppendsPart}
+pub use Rattle.hn_streams.specs.Refusal.{refused_line}
 pub use Rattle.hn_sync.specs.Exchange.{unless_exchange}
 pub use Rattle.hn_ula.specs.Ula.{Decides, IsOwnOf, IsUlaStill}
 pub use Rattle.hn_wire.specs.Wires.{Sends}

@@ -6,7 +6,7 @@ use Rattle.hn_lab.specs.declared.end.End.TheVariants as end
 use Rattle.hn_lab.specs.Carrying.{IsLeftAt}
 use Rattle.hn_lab.specs.Writing.{IsCutThere}
 use Rattle.hn_lab.proofs.RunWrites.{bytes_more, bytes_told, gets_more, last_of}
-use Rattle.hn_lab.proofs.TextStreams.{Appends-more}
+use Rattle.std.proofs.KnownBytes.{Appends-trans}
 
 -- ---- the lines that are done
 
@@ -87,7 +87,7 @@ module _ (all ls : List (ℕ × Line)) (number : ℕ) (l : Line) (p m a : Stage)
       telling (refused_line number code ∷ []) e.at,
       stops (Refused code) (telling (refused_line number code ∷ []) e.at) (e.at, e.ended, refl),
       ap (λ (s : Stage). record s { text = e.at.text ++ told e.at.world (refused_line number code ∷ []) }) last,
-      subst (Appends h o) (sym bytes_are) (Appends-more h k o (bytes_of e.at.text) (refused_line number code) (whole (Some (Refused code)) e) written),
+      subst (Appends h o) (sym bytes_are) (Appends-trans h k o (bytes_of e.at.text) (refused_line number code) (whole (Some (Refused code)) e) written),
     )
 
     said_so : (fault : IoFault) → StopsAt number (Cut fault) all p (telling (refused_line number code ∷ []) e.at)
@@ -101,7 +101,7 @@ module _ (all ls : List (ℕ × Line)) (number : ℕ) (l : Line) (p m a : Stage)
       record { cut = (number, said_so Failed); so_far = e.at.text; line = refused_line number code; text_is = refl },
       ap (λ (s : Stage). record s { text = e.at.text ++ told e.at.world (refused_line number code ∷ []) }) last,
       record { before = e.at.text; last = record { world = e.at.world; line = refused_line number code }; part = part; text_is = refl; in_part = in_part; written_is = refl },
-      Appends-more h k o (bytes_of e.at.text) part (whole (Some (Refused code)) e) written,
+      Appends-trans h k o (bytes_of e.at.text) part (whole (Some (Refused code)) e) written,
     )
 
     pub starved_refusal : AppendsPart k o (refused_line number code) → (after : Stage) × IsCut NoMemory all p after × IsLeftAt after a.route
@@ -116,6 +116,6 @@ module _ (all ls : List (ℕ × Line)) (number : ℕ) (l : Line) (p m a : Stage)
           in_part.missing,
           bytes_are ∙ ap (λ (x : List ℕ). bytes_of e.at.text ++ x) in_part.whole_is ∙ sym (append_assoc (bytes_of e.at.text) part in_part.missing),
         ),
-        Appends-more h k o (bytes_of e.at.text) part (whole (Some (Refused code)) e) written,
+        Appends-trans h k o (bytes_of e.at.text) part (whole (Some (Refused code)) e) written,
       ),
     )

@@ -3,9 +3,9 @@ use Rattle.hn_base.proofs.Names.{◌≡◌, ◌≢◌, ◌∙◌, ℕ, List, [],
 use Rattle.hn_base.proofs.Names.{none-some}
 use Rattle.hn_lab.proofs.Names.{append-nil, same_error, IoFault, Failed, NoMemory, Parts, Stop, Refused, WireFailed, Cut, IsStopped, Ended, Leaves, AreCut, joined, Process, ThenProcess, Stage}
 use Rattle.hn_lab.proofs.Names.{telling, Told, told, bytes_of, Gets, EndsAt, EndsWriting}
-use Rattle.hn_lab.specs.Output.{IsPart}
+use Rattle.hn_streams.specs.Output.{IsPart}
 use Rattle.hn_lab.proofs.RunStops.{then_on, stopped_within}
-use Rattle.hn_lab.proofs.TextStreams.{Appends-more}
+use Rattle.std.proofs.KnownBytes.{Appends-trans}
 
 -- ---- the bytes of a text
 
@@ -35,9 +35,9 @@ appends_none (Some xs) = sym (append-nil xs)
 
 -- of a text that came up after another
 pub gets_more : (stop : Option Stop) (w : Parts) (s t : List Told) (h j k : Option (List ℕ)) → Appends h j (bytes_of s) → Gets stop w t j k → Gets stop w (s ++ t) h k
-gets_more None w s t h j k first second = subst (Appends h k) (sym (bytes_more s t)) (Appends-more h j k (bytes_of s) (bytes_of t) first second)
-gets_more (Some (Refused code)) w s t h j k first second = subst (Appends h k) (sym (bytes_more s t)) (Appends-more h j k (bytes_of s) (bytes_of t) first second)
-gets_more (Some WireFailed) w s t h j k first second = subst (Appends h k) (sym (bytes_more s t)) (Appends-more h j k (bytes_of s) (bytes_of t) first second)
+gets_more None w s t h j k first second = subst (Appends h k) (sym (bytes_more s t)) (Appends-trans h j k (bytes_of s) (bytes_of t) first second)
+gets_more (Some (Refused code)) w s t h j k first second = subst (Appends h k) (sym (bytes_more s t)) (Appends-trans h j k (bytes_of s) (bytes_of t) first second)
+gets_more (Some WireFailed) w s t h j k first second = subst (Appends h k) (sym (bytes_more s t)) (Appends-trans h j k (bytes_of s) (bytes_of t) first second)
 gets_more (Some (Cut Failed)) w s t h j k first cut = record {
   front = s ++ cut.front;
   line = cut.line;
@@ -45,12 +45,12 @@ gets_more (Some (Cut Failed)) w s t h j k first cut = record {
   text_is = ap (λ (x : List Told). s ++ x) cut.text_is ∙ sym (append_assoc s cut.front (told w (cut.line ∷ [])));
   in_part = cut.in_part;
   appends = subst (Appends h k) (sym (ap (λ (x : List ℕ). x ++ cut.part) (bytes_more s cut.front) ∙ append_assoc (bytes_of s) (bytes_of cut.front) cut.part))
-      (Appends-more h j k (bytes_of s) (bytes_of cut.front ++ cut.part) first cut.appends);
+      (Appends-trans h j k (bytes_of s) (bytes_of cut.front ++ cut.part) first cut.appends);
 }
 gets_more (Some (Cut NoMemory)) w s t h j k first (front, is_front, second) = (
   bytes_of s ++ front,
   (is_front.0, bytes_more s t ∙ ap (λ (x : List ℕ). bytes_of s ++ x) is_front.1 ∙ sym (append_assoc (bytes_of s) front is_front.0)),
-  Appends-more h j k (bytes_of s) front first second,
+  Appends-trans h j k (bytes_of s) front first second,
 )
 
 -- ---- ends

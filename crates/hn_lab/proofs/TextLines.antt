@@ -1,7 +1,7 @@
 -- Lines of text, one after another.
 use Rattle.hn_base.proofs.Names.{◌≡◌, ◌∙◌, ◌+◌, ◌<◌, ◌++◌, ℕ, List, ◌∷◌, Option, sym, ap, length, take, drop, get_or, add-one, Appends, drop-cons, take-append-drop, map-append}
 use Rattle.hn_lab.proofs.Names.{map, AppendsPart, AreCut, joined}
-use Rattle.hn_lab.proofs.TextStreams.{Appends-more}
+use Rattle.std.proofs.KnownBytes.{Appends-trans}
 
 -- the lines before one, that one, and those after it
 lines_at : {K : Type 0} (f : K → List ℕ) (xs : List K) (i : ℕ) (x : K) → i < length xs → x ≡ get_or xs i x → map f xs ≡ map f (take i xs) ++ f x ∷ map f (drop (i + 1) xs)
@@ -21,5 +21,5 @@ cut_at f xs i x lines a b c within is same written part = (
   f x,
   part.0,
   record { rest = map f (drop (i + 1) xs); lines_are = sym same ∙ lines_at f xs i x within is; in_part = part.1 },
-  Appends-more a b c (joined (map f (take i xs))) part.0 written part.2,
+  Appends-trans a b c (joined (map f (take i xs))) part.0 written part.2,
 )

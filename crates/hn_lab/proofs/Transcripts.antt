@@ -6,7 +6,7 @@ use Rattle.hn_script.specs.Laws.{AtMostOneScript, FaultExcludesScript}
 use Rattle.hn_script.specs.Script.{IsScript}
 use Rattle.hn_lab.specs.declared.end.End.TheVariants.{Refused, WireFailed}
 use Rattle.hn_lab.specs.Lab.{IsStarvedPlay, status_of}
-use Rattle.hn_lab.specs.Output.{IsFrontOf}
+use Rattle.hn_streams.specs.Output.{IsFrontOf}
 use Rattle.hn_lab.specs.Transcripts.{DoneOrRefused, IsOfTranscript, IsTranscript, IsWrittenOf, LabIsOfTranscript, PlayIsOfTranscript, Transcript, TranscriptExists, TranscriptIsUnique}
 use Rattle.hn_lab.specs.Transcripts.{WrittenIsOfTranscript}
 

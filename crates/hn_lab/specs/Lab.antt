@@ -12,9 +12,10 @@ use Rattle.hn_lab.specs.declared.end.End.{End}
 use Rattle.hn_lab.specs.declared.end.End.TheVariants.{Done, Refused, WireFailed}
 use Rattle.hn_lab.specs.Carrying.{IsLeftAt}
 use Rattle.hn_lab.specs.Laws.{IsKnownRoute}
-use Rattle.hn_lab.specs.Output.{IsPart, IsFrontOf, IsCutText}
+use Rattle.hn_streams.specs.Output.{IsPart, IsFrontOf}
+use Rattle.hn_lab.specs.Output.{IsCutText}
 use Rattle.hn_lab.specs.Play.{begun, IsPlay, IsCut, IsCutPlay}
-use Rattle.hn_lab.specs.Reports.{refused_line}
+use Rattle.hn_streams.specs.Refusal.{refused_line}
 use Rattle.hn_lab.specs.Stage.{Stage, Route}
 use Rattle.hn_lab.specs.Told.{bytes_of}
 

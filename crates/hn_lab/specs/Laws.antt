@@ -1,6 +1,5 @@
 -- Laws of plays.
 use Rattle.std.specs.Prelude.{◌≡◌, ◌⊎◌, ⊤, ℕ, List, ◌++◌, Option, Some, length}
-use Rattle.std.specs.Io.KnownBytes.{Appends}
 use Rattle.hn_addr.specs.Laws.{ChoiceIsUnique}
 use Rattle.hn_advert.specs.Advert.{IsAdvert}
 use Rattle.hn_advert.specs.declared.advert.Advert.{Advert}
@@ -83,9 +82,3 @@ abbrev pub MailDelivers : Type 0
 MailDelivers =
     (copy : ℕ) (notes : List Note) (stop : Option Stop) (before after : Stage) → before.route ≡ Mail
     → DeliveryEnds copy notes stop before after → EventNotes (event.Deliver copy) notes stop before after
-
--- What is appended in two pieces is appended.
-abbrev pub PiecesAppend : Type 0
-PiecesAppend =
-    (before between after : Option (List ℕ)) (first second : List ℕ)
-    → Appends before between first → Appends between after second → Appends before after (first ++ second)

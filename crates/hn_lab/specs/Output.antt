@@ -1,26 +1,8 @@
--- What of a text a sink holds.
-use Rattle.std.specs.Prelude.{◌≡◌, ◌<◌, ℕ, List, [], ◌∷◌, ◌++◌, Option, length}
-use Rattle.std.specs.Io.KnownBytes.{Appends}
+-- What of the lines of a text a sink holds.
+use Rattle.std.specs.Prelude.{◌≡◌, ℕ, List, [], ◌∷◌, ◌++◌}
 use Rattle.std.specs.List.{flat_map}
+use Rattle.hn_streams.specs.Output.{IsPart}
 use Rattle.hn_lab.specs.Told.{Told, bytes_of}
-
--- a proper front
-pub record IsPart (part whole : List ℕ) : Type 0 where
-  pub missing : List ℕ
-  pub some : 0 < length missing
-  pub whole_is : whole ≡ part ++ missing
-
--- a front
-abbrev pub IsFrontOf : List ℕ → List ℕ → Type 0
-IsFrontOf front whole = (back : List ℕ) × (whole ≡ front ++ back)
-
--- a sink grew by a front of this text
-abbrev pub AppendsFront : Option (List ℕ) → Option (List ℕ) → List ℕ → Type 0
-AppendsFront before after text = (front : List ℕ) × IsFrontOf front text × Appends before after front
-
--- a sink grew by a proper front of this piece
-abbrev pub AppendsPart : Option (List ℕ) → Option (List ℕ) → List ℕ → Type 0
-AppendsPart before after piece = (part : List ℕ) × IsPart part piece × Appends before after part
 
 -- lines, one after another
 abbrev pub joined : List (List ℕ) → List ℕ

@@ -11,7 +11,7 @@ use Rattle.hn_lab.specs.declared.end.Stop.{Stop}
 use Rattle.hn_lab.specs.declared.end.Stop.TheVariants.{Refused, WireFailed, Cut}
 use Rattle.hn_lab.specs.Line.{LineEnds}
 use Rattle.hn_lab.specs.Process.{Process}
-use Rattle.hn_lab.specs.Reports.{refused_line}
+use Rattle.hn_streams.specs.Refusal.{refused_line}
 use Rattle.hn_lab.specs.Stage.{Stage, Route, telling}
 use Rattle.hn_lab.specs.Tells.{TellsLines}
 use Rattle.hn_lab.specs.Told.{Told, told}

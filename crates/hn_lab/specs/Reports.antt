@@ -73,7 +73,3 @@ note_text note.Refused = codes "refused"
 -- of the router of this name
 abbrev pub note_line : Name → Note → List ℕ
 note_line name n = codes "note " ++ name_text name ++ codes " " ++ note_text n ++ 10 ∷ []
-
--- the last line of a run that was refused
-abbrev pub refused_line : ℕ → ℕ → List ℕ
-refused_line line code = codes "refused " ++ decimal line ++ codes " " ++ decimal code ++ 10 ∷ []

@@ -9,7 +9,7 @@ use Rattle.hn_world.specs.declared.parts.Parts.{Parts}
 use Rattle.hn_lab.specs.Existing.{PlayEnd}
 use Rattle.hn_lab.specs.Lab.{Plays, status_of, HasDonePlay, HasRefusal, IsLabRun}
 use Rattle.hn_lab.specs.Laws.{IsUnbroken}
-use Rattle.hn_lab.specs.Output.{IsFrontOf}
+use Rattle.hn_streams.specs.Output.{IsFrontOf}
 use Rattle.hn_lab.specs.Play.{begun, IsPlay}
 use Rattle.hn_lab.specs.Stage.{Route, Mail}
 use Rattle.hn_lab.specs.Told.{bytes_of}

@@ -6,7 +6,7 @@ use Rattle.hn_world.specs.declared.parts.Parts.{Parts}
 use Rattle.hn_lab.specs.declared.end.Stop.{Stop}
 use Rattle.hn_lab.specs.declared.end.Stop.TheVariants.{Cut}
 use Rattle.hn_lab.specs.Carrying.{IsLeftAt}
-use Rattle.hn_lab.specs.Output.{IsPart, AppendsFront}
+use Rattle.hn_streams.specs.Output.{IsPart, AppendsFront}
 use Rattle.hn_lab.specs.Process.{Process}
 use Rattle.hn_lab.specs.Stage.{Stage}
 use Rattle.hn_lab.specs.Told.{Told, told, bytes_of}

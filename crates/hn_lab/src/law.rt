@@ -1,7 +1,7 @@
 //! Laws of plays. Each is the contract of a function that does nothing.
 
 ghost use Rattle.hn_lab.specs.Breaking.{WireFailsAtACopy};
-ghost use Rattle.hn_lab.specs.Laws.{AtMostOnePlay, AtMostOneCutPlay, CutTextsAreFronts, BrokenTextsAreFronts, MailDelivers, PiecesAppend, ResultsAreUnique};
+ghost use Rattle.hn_lab.specs.Laws.{AtMostOnePlay, AtMostOneCutPlay, CutTextsAreFronts, BrokenTextsAreFronts, MailDelivers, ResultsAreUnique};
 ghost use Rattle.hn_lab.specs.Resting.{LastingRunKeepsCalm, CalmLinesKeepCalm, RunBringsCalm, RunKeepsCalm};
 
 use hn_addr::choice_is_unique;
@@ -71,11 +71,6 @@ pub fn wire_fails_at_a_copy()
 /// By mail a delivery is no more than the event.
 pub fn mail_delivers()
     ensures { MailDelivers }
-{}
-
-/// What is appended in two pieces is appended.
-pub fn pieces_append()
-    ensures { PiecesAppend }
 {}
 
 /// Over a line `run` by mail, without loss, with steps of at most 22 s, a calm home stays calm: settled and quiet, with the same

@@ -10,7 +10,6 @@ mod delivery;
 mod end;
 mod existing;
 mod flow;
-mod input;
 mod law;
 mod line;
 mod lines;
@@ -36,13 +35,11 @@ pub use existing::{
     lab_is_of_transcript, play_exists, play_is_of_transcript, script_has_a_play, transcript_exists,
     written_is_of_transcript,
 };
-pub use input::read_all;
 pub use law::{
     at_most_one_cut_play, at_most_one_play, broken_text_is_a_front, cut_text_is_a_front,
-    mail_delivers, pieces_append, run_keeps_calm, wire_fails_at_a_copy,
+    mail_delivers, run_keeps_calm, wire_fails_at_a_copy,
 };
 pub use notes::note_line;
-pub use output::{write_piece, write_refusal};
 pub use scripts::{
     DONE, NO_MEMORY, Played, REFUSED, SINK_FAILED, SOURCE_FAILED, WIRE_FAILED, lab, play,
 };

@@ -6,7 +6,8 @@ ghost use Rattle.hn_base.specs.declared.version.Version.{Version};
 ghost use Rattle.hn_script.specs.Laws.{IsLimited};
 ghost use Rattle.hn_script.specs.Line.{IsOfVersion};
 ghost use Rattle.hn_lab.specs.Carrying.{IsLeftAt};
-ghost use Rattle.hn_lab.specs.Output.{AppendsFront, IsCutText};
+ghost use Rattle.hn_streams.specs.Output.{AppendsFront};
+ghost use Rattle.hn_lab.specs.Output.{IsCutText};
 ghost use Rattle.hn_lab.specs.Play.{IsPlay, IsCut, IsCutPlay};
 ghost use Rattle.hn_lab.specs.Stage.{Stage, stage_of};
 ghost use Rattle.hn_lab.specs.Told.{bytes_of};
@@ -15,10 +16,10 @@ ghost use Rattle.hn_lab.specs.declared.end.End.TheVariants as end;
 use crate::carrying::Carrier;
 use crate::end::{End, Stop};
 use crate::line::play_line;
-use crate::output::write_refusal;
 use crate::playing::Playing;
 use hn_io::{IoFault, Sink};
 use hn_script::Line;
+use hn_streams::write_refusal;
 use std::alloc::Global;
 
 /// Plays lines one after another, each with its number, and writes each line of text right when it comes up. The

@@ -6,7 +6,7 @@ ghost use Rattle.hn_world.specs.declared.member.Member.{Member as AMember};
 ghost use Rattle.hn_world.specs.Names.{member_named};
 ghost use Rattle.hn_world.specs.Asked.{unless_both_run};
 ghost use Rattle.hn_lab.specs.Report.{Compares, mail_report};
-ghost use Rattle.hn_lab.specs.Reports.{show_line, hash_line, agreement_text, compare_line, refused_line};
+ghost use Rattle.hn_lab.specs.Reports.{show_line, hash_line, agreement_text, compare_line};
 
 use hn_base::{Hex, Name, NoMemory, yes_no};
 use hn_hash::Agreement;
@@ -92,11 +92,4 @@ pub(crate) fn mail_line(alloc: Global, world: &World) -> Result<String, AllocErr
     let copies = world.copies();
     let waiting = world.waiting();
     format!(in alloc; "mail copies={copies} waiting={waiting}\n")
-}
-
-/// The last line of a run that was refused.
-pub(crate) fn refused_line(alloc: Global, line: u32, code: u8) -> Result<String, AllocError>
-    ensures { IfOk result (λ text. string_bytes text ≡ refused_line line code) }
-{
-    format!(in alloc; "refused {line} {code}\n")
 }

@@ -4,19 +4,17 @@ ghost use Rattle.std.specs.List.{AllByRecursion};
 ghost use Rattle.hn_io.specs.Faults.{IsCaused};
 ghost use Rattle.hn_script.specs.Laws.{IsLimited};
 ghost use Rattle.hn_script.specs.Line.{IsOfVersion};
+ghost use Rattle.hn_streams.specs.Refusal.{refused_line};
 ghost use Rattle.hn_world.specs.Replay.{IsReplayed};
 ghost use Rattle.hn_lab.specs.declared.end.End.TheVariants as ends;
 ghost use Rattle.hn_lab.specs.Lab.{play_status, Plays, IsLineWritten, IsLabOf, IsLabRun, StatusOfScript, HasDonePlay, HasRefusal};
-ghost use Rattle.hn_lab.specs.Reports.{refused_line};
 ghost use Rattle.hn_lab.specs.Stage.{route_of};
 ghost use Rattle.hn_lab.specs.Transcripts.{IsLabTranscript, AppendsTranscript};
 
 use crate::carrying::{Carrier, Mail, Ports};
 use crate::end::End;
 use crate::existing::{lab_is_of_transcript, play_is_of_transcript};
-use crate::input::read_all;
 use crate::law::at_most_one_play;
-use crate::output::write_refusal;
 use crate::playing::Playing;
 use crate::plays::play_lines;
 use hn_io::{IoFault, Sink, Source};
@@ -24,22 +22,11 @@ use hn_script::{
     ParseFault, Script, ScriptFault, fault_excludes_script, lines_are_of_version, parse,
     script_is_limited, script_is_unique,
 };
+pub use hn_streams::{DONE, NO_MEMORY, REFUSED, SINK_FAILED, SOURCE_FAILED, WIRE_FAILED};
+use hn_streams::{read_all, write_refusal};
 use hn_wire::Wire;
 use hn_world::World;
 use std::alloc::Global;
-
-/// The input was read to its end and the whole text was written.
-pub const DONE: u8 = 0;
-/// The script or one of its lines was refused; the last line written says it.
-pub const REFUSED: u8 = 2;
-/// The source failed; nothing was written.
-pub const SOURCE_FAILED: u8 = 3;
-/// The sink failed.
-pub const SINK_FAILED: u8 = 4;
-/// The wire failed, right before a delivery.
-pub const WIRE_FAILED: u8 = 5;
-/// Out of memory.
-pub const NO_MEMORY: u8 = 6;
 
 /// What a call came to: its status, and the world of the script that was played, if one was.
 #[derive(Drop)]

@@ -2,12 +2,11 @@
 pub use Rattle.hn_base.specs.declared.name.Name.{Name}
 pub use Rattle.hn_io.specs.declared.fault.IoFault.{IoFault}
 pub use Rattle.hn_io.specs.declared.fault.IoFault.TheVariants.{Failed, NoMemory}
-pub use Rattle.hn_lab.specs.Laws.{PiecesAppend}
-pub use Rattle.hn_lab.specs.Output.{AppendsPart}
 pub use Rattle.hn_look.specs.Look.{EndsRefused, IsLookRun, MayStarve, Says, Sees, SeesTable, SeesWhy}
-pub use Rattle.hn_look.specs.Output.{AppendsCut}
 pub use Rattle.hn_look.specs.Steps.{copy_lines, endpoint_text, sender_endpoint}
 pub use Rattle.hn_look.specs.declared.words.Form.TheVariants.{Log, Table, Why}
+pub use Rattle.hn_streams.specs.Laws.{PiecesAppend}
+pub use Rattle.hn_streams.specs.Output.{AppendsCut, AppendsPart}
 pub use Rattle.hn_table.specs.Table.{IsTableText}
 pub use Rattle.hn_why.specs.Why.{IsWhy}
 pub use Rattle.hn_world.specs.declared.member.Member.{Member}

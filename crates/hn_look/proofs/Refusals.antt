@@ -8,7 +8,7 @@ use Rattle.std.proofs.lemmas.List.Folds.{list_all-append}
 use Rattle.memchr.specs.Find.{NoneAfter, Nowhere, Passes, is_byte}
 use Rattle.hn_lab.specs.Lab.{IsLabRun, IsLabOf, status_of}
 use Rattle.hn_lab.specs.Play.{IsPlay}
-use Rattle.hn_lab.specs.Reports.{refused_line}
+use Rattle.hn_streams.specs.Refusal.{refused_line}
 use Rattle.hn_lab.specs.Stage.{Stage, Mail}
 use Rattle.hn_lab.specs.Told.{Told, told, bytes_of}
 use Rattle.hn_lab.specs.declared.end.End.{End}

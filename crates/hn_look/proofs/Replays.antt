@@ -5,7 +5,7 @@ use Rattle.hn_look.proofs.Names.{append-nil, IoFault, PiecesAppend, Parts, Appen
 use Rattle.std.proofs.Math.ListN.{get_or-append}
 use Rattle.hn_base.specs.Words as drawn
 use Rattle.hn_base.specs.declared.version.Version.{Version}
-use Rattle.hn_lab.specs.Output.{AppendsFront}
+use Rattle.hn_streams.specs.Output.{AppendsFront}
 use Rattle.hn_rules.specs.declared.done.Note.{Note}
 use Rattle.hn_world.specs.Laws.{StepIsUnique}
 use Rattle.hn_world.specs.Refusal.{refusal}

@@ -4,7 +4,7 @@ use Rattle.std.specs.Io.KnownBytes.{Appends}
 use Rattle.hn_io.specs.declared.fault.IoFault.{IoFault}
 use Rattle.hn_io.specs.declared.fault.IoFault.TheVariants.{Failed, NoMemory}
 use Rattle.hn_lab.specs.Lab.{IsLabRun}
-use Rattle.hn_lab.specs.Reports.{refused_line}
+use Rattle.hn_streams.specs.Refusal.{refused_line}
 use Rattle.hn_lab.specs.Stage.{Mail}
 use Rattle.hn_base.specs.Name.{name_text}
 use Rattle.hn_table.specs.Table.{IsTableText}
@@ -16,7 +16,7 @@ use Rattle.hn_world.specs.declared.parts.Parts.{Parts}
 use Rattle.hn_look.specs.declared.words.Form.{Form}
 use Rattle.hn_look.specs.declared.words.Form.TheVariants.{Log, Table, Why}
 use Rattle.hn_look.specs.Log.{IsLog}
-use Rattle.hn_look.specs.Output.{AppendsCut}
+use Rattle.hn_streams.specs.Output.{AppendsCut}
 
 -- A way to look at a world comes to a status, 0 or 2, and a text: `log`.
 abbrev pub SeesLog : Parts → ℕ → List ℕ → Type 0

@@ -1,5 +1,5 @@
 ghost use Rattle.std.specs.Prelude.{◌≡◌, ◌++◌, ℕ, List};
-ghost use Rattle.hn_lab.specs.Reports.{refused_line};
+ghost use Rattle.hn_streams.specs.Refusal.{refused_line};
 
 use memchr::memrchr;
 

@@ -7,14 +7,14 @@ ghost use Rattle.hn_rules.specs.declared.done.Note.{Note as ANote};
 ghost use Rattle.hn_world.specs.declared.parts.Parts.{Parts};
 ghost use Rattle.hn_world.specs.Step.{Step};
 ghost use Rattle.hn_look.specs.Log.{IsStepText, IsLog, AtMostOneLog};
-ghost use Rattle.hn_look.specs.Output.{AppendsCut};
+ghost use Rattle.hn_streams.specs.Output.{AppendsCut};
 
 use crate::copied::copied;
 use crate::step_text::{Made, push_step};
 use hn_base::{NoMemory, Sequence};
 use hn_io::{IoFault, Listed, Sink};
-use hn_lab::{pieces_append, write_piece};
 use hn_rules::Note;
+use hn_streams::{pieces_append, write_piece};
 use hn_world::{Traced, World, WorldFault, step_is_unique};
 use std::alloc::Global;
 

@@ -10,7 +10,8 @@ use crate::named::{write_table, write_why};
 use crate::status::{DONE, REFUSED};
 use crate::words::Form;
 use hn_io::{IoFault, Sink};
-use hn_lab::{Played, pieces_append, write_piece};
+use hn_lab::Played;
+use hn_streams::{pieces_append, write_piece};
 use hn_world::World;
 use std::alloc::Global;
 

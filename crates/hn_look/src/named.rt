@@ -8,7 +8,7 @@ ghost use Rattle.hn_look.specs.Look.{Refuses, Says, SeesTable, SeesWhy, Looked};
 use crate::status::{DONE, REFUSED};
 use hn_base::Name;
 use hn_io::{IoFault, Sink};
-use hn_lab::{write_piece, write_refusal};
+use hn_streams::{write_piece, write_refusal};
 use hn_table::table_text;
 use hn_why::why_text;
 use hn_world::{UNKNOWN, World};

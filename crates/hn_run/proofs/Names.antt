@@ -9,15 +9,12 @@ pub use Rattle.hn_dncp.specs.declared.port.Port.{Port}
 pub use Rattle.hn_io.specs.declared.fault.IoFault.{IoFault}
 pub use Rattle.hn_io.specs.declared.fault.IoFault.TheVariants.{Failed, NoMemory}
 pub use Rattle.hn_lab.specs.Lab.{IsLabRun}
-pub use Rattle.hn_lab.specs.Laws.{PiecesAppend}
-pub use Rattle.hn_lab.specs.Output.{AppendsPart}
-pub use Rattle.hn_lab.specs.Reports.{refused_line}
 pub use Rattle.hn_node.specs.declared.served.Served.{Served}
 pub use Rattle.hn_own.specs.Ports.{endpoints_of}
 pub use Rattle.hn_router.specs.Act.{Attach, Happened}
 pub use Rattle.hn_rules.specs.declared.done.Done.{Done}
 pub use Rattle.hn_rules.specs.declared.state.State.{State}
-pub use Rattle.hn_run.specs.Decode.{AppendsCut, CutsDecode, IsDecodeOf, SpellsTlvs, WritesDecode, malformed_line, written_status}
+pub use Rattle.hn_run.specs.Decode.{CutsDecode, IsDecodeOf, SpellsTlvs, WritesDecode, malformed_line, written_status}
 pub use Rattle.hn_run.specs.Form.{ArePeerPorts, IsFormOf}
 pub use Rattle.hn_run.specs.HexText.{unblanked}
 pub use Rattle.hn_run.specs.Node.{IsNodeRun, IsOverfull, IsSetUp, LineHolds, LinesHappen, MakesNode, Outside, PlainCall, StatusOfNode, node_event_of, is_too_many, served_line, node_line, plain_call}
@@ -28,6 +25,9 @@ pub use Rattle.hn_run.specs.declared.words.NodeCall.{NodeCall}
 pub use Rattle.hn_script.specs.Field.{IsNumberText}
 pub use Rattle.hn_script.specs.declared.fault.ScriptFault.{ScriptFault}
 pub use Rattle.hn_script.specs.declared.node_file.NodeLine.{NodeLine}
+pub use Rattle.hn_streams.specs.Laws.{PiecesAppend}
+pub use Rattle.hn_streams.specs.Output.{AppendsCut, AppendsPart}
+pub use Rattle.hn_streams.specs.Refusal.{refused_line}
 pub use Rattle.hn_tlv.specs.Grammar.{HasTlvs}
 pub use Rattle.hn_watch.specs.Watch.{fed_of}
 pub use Rattle.hn_watch.specs.declared.seen.Seen.{Seen}

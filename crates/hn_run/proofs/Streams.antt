@@ -1,7 +1,7 @@
 -- One write after another.
 use Rattle.hn_base.proofs.Names.{◌≡◌, ◌∙◌, ℕ, List, [], ◌++◌, Option, None, Some, Result, Ok, Err, sym, ap, refl, arith, append_assoc, length-append, OnErr, IfErr, Appends}
 use Rattle.hn_run.proofs.Names.{append-nil, IoFault, Failed, NoMemory, AppendsPart, PiecesAppend, AppendsCut}
-use Rattle.hn_lab.specs.Output.{AppendsFront}
+use Rattle.hn_streams.specs.Output.{AppendsFront}
 
 pub Appends-none : (a : Option (List ℕ)) → Appends a a []
 Appends-none None = tt

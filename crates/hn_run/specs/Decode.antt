@@ -5,8 +5,8 @@ use Rattle.hn_io.specs.declared.fault.IoFault.{IoFault}
 use Rattle.hn_io.specs.declared.fault.IoFault.TheVariants.{Failed, NoMemory}
 use Rattle.hn_tlv.specs.Grammar.{HasTlvs, FirstFault}
 use Rattle.hn_decode.specs.Nested.{IsDecodeText}
-use Rattle.hn_lab.specs.Output.{AppendsFront, AppendsPart}
-use Rattle.hn_lab.specs.Reports.{refused_line}
+use Rattle.hn_streams.specs.Output.{AppendsCut}
+use Rattle.hn_streams.specs.Refusal.{refused_line}
 use Rattle.hn_run.specs.HexText.{IsHexText, IsNoHexText}
 
 -- the line of octets that are no list of TLVs: the place and the cause of the first fault
@@ -51,11 +51,6 @@ IsDecodeOf bytes status text = IsRefusedSource bytes status text ⊎ IsDecoded b
 -- and a sink grew by that text
 abbrev pub WritesDecode : List ℕ → ℕ → Option (List ℕ) → Option (List ℕ) → Type 0
 WritesDecode bytes status before after = (text : List ℕ) × IsDecodeOf bytes status text × Appends before after text
-
--- how far a sink grew by a text that was cut: after a failure by a proper front of it, and out of memory by a front
-abbrev pub AppendsCut : IoFault → Option (List ℕ) → Option (List ℕ) → List ℕ → Type 0
-AppendsCut Failed before after text = AppendsPart before after text
-AppendsCut NoMemory before after text = AppendsFront before after text
 
 -- or the writing was cut by a fault, and a sink grew by as much of the text
 abbrev pub CutsDecode : List ℕ → IoFault → Option (List ℕ) → Option (List ℕ) → Type 0

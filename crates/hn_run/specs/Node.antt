@@ -9,8 +9,8 @@ use Rattle.hn_base.specs.Input.{IsWhole}
 use Rattle.hn_base.specs.Words.{Begins}
 use Rattle.hn_base.specs.declared.ids.NodeId.{NodeId}
 use Rattle.hn_io.specs.Pcg.{pcg_word}
-use Rattle.hn_lab.specs.Output.{IsPart, IsFrontOf}
-use Rattle.hn_lab.specs.Reports.{refused_line}
+use Rattle.hn_streams.specs.Output.{IsPart, IsFrontOf}
+use Rattle.hn_streams.specs.Refusal.{refused_line}
 use Rattle.hn_node.specs.Turns.{PlainSite, Serving, serving, AreTurns, CutTurns, StarvesTurns, handed_in, arrivals_in, logged_words}
 use Rattle.hn_node.specs.declared.served.ServeEnd.{ServeEnd}
 use Rattle.hn_node.specs.declared.served.ServeEnd.TheVariants as ending

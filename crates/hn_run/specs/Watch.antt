@@ -15,8 +15,8 @@ use Rattle.hn_watch.specs.declared.seen.Seen.{Seen}
 use Rattle.hn_watch.specs.declared.shown.Shown.{Shown}
 use Rattle.hn_watch.specs.Shown.{AreShownIn}
 use Rattle.hn_watch.specs.Seen.{AreSeen}
-use Rattle.hn_lab.specs.Reports.{refused_line}
-use Rattle.hn_run.specs.Decode.{AppendsCut}
+use Rattle.hn_streams.specs.Refusal.{refused_line}
+use Rattle.hn_streams.specs.Output.{AppendsCut}
 
 -- a line of a capture: hexadecimal digits of at most 131,014 bytes, which write a datagram; `-` is one without bytes
 pub record IsCaptureLine (datagram text : List ℕ) : Type 0 where

@@ -3,7 +3,8 @@ ghost use Rattle.std.specs.Io.KnownBytes.{Appends};
 ghost use Rattle.hn_io.specs.Faults.{IsCaused};
 ghost use Rattle.hn_tlv.specs.Grammar.{PlainTlv, IsTlvList, HasTlvs};
 ghost use Rattle.hn_decode.specs.Nested.{IsDecodeText, IsTextTo};
-ghost use Rattle.hn_run.specs.Decode.{SpellsTlvs, IsContentsOf, IsDecodeOf, WritesDecode, CutsDecode, AppendsCut, malformed_line};
+ghost use Rattle.hn_run.specs.Decode.{SpellsTlvs, IsContentsOf, IsDecodeOf, WritesDecode, CutsDecode, malformed_line};
+ghost use Rattle.hn_streams.specs.Output.{AppendsCut};
 
 use crate::hex_text::octets_of;
 use crate::output::write_lines;
@@ -11,8 +12,8 @@ use crate::report::malformed_line;
 use crate::status::{DONE, NO_MEMORY, REFUSED, SINK_FAILED, written_status};
 use hn_decode::{decode_text_exists, first_line, lines_go_on, lines_make_the_text, push_next};
 use hn_io::{IoFault, Sink};
-use hn_lab::{pieces_append, write_piece, write_refusal};
 use hn_script::{LARGE, MALFORMED, SOURCE_LIMIT};
+use hn_streams::{pieces_append, write_piece, write_refusal};
 use hn_tlv::{TlvFault, check, first_fault_is_unique, list_or_first_fault};
 use std::alloc::Global;
 

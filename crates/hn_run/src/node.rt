@@ -3,8 +3,8 @@
 ghost use Rattle.std.specs.Prelude.{◌≡◌, ◌≢◌, ◌≤◌, ◌^◌, ◌⊎◌, ◌+◌, ℕ, List, [], ◌∷◌, All, Err, OnOk, OnErr, IfOk, IfSome, Contains, None, Some, length, string_bytes};
 ghost use Rattle.std.specs.Io.KnownBytes.{Appends, Consumes};
 ghost use Rattle.hn_io.specs.Faults.{IsCaused};
-ghost use Rattle.hn_lab.specs.Output.{AppendsPart};
-ghost use Rattle.hn_lab.specs.Reports.{refused_line};
+ghost use Rattle.hn_streams.specs.Output.{AppendsPart};
+ghost use Rattle.hn_streams.specs.Refusal.{refused_line};
 ghost use Rattle.hn_node.specs.Turns.{IsBounded};
 ghost use Rattle.hn_node.specs.declared.served.ServeEnd.{ServeEnd};
 ghost use Rattle.hn_script.specs.NodeFile.{IsNodeFile};
@@ -20,12 +20,12 @@ use crate::status::{
 use crate::words::NodeCall;
 use hn_base::NoMemory;
 use hn_io::{IoFault, Pcg, Sink, Source, words_join};
-use hn_lab::{read_all, write_piece, write_refusal};
 use hn_node::{ServeEnd, Served, serve};
 use hn_router::limit_stays;
 use hn_script::{
     NodeLine, ParseFault, fault_excludes_node_file, node_file_is_unique, parse_node_file,
 };
+use hn_streams::{read_all, write_piece, write_refusal};
 use hn_wire::{Clock, Wire};
 use hn_world::router_is_within_limits;
 use std::alloc::{AllocError, Global};

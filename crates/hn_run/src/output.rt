@@ -1,10 +1,10 @@
 ghost use Rattle.std.specs.Prelude.{◌≡◌, OnOk, OnErr, Err};
 ghost use Rattle.std.specs.Io.KnownBytes.{Appends};
 ghost use Rattle.hn_io.specs.Faults.{IsCaused};
-ghost use Rattle.hn_lab.specs.Output.{AppendsPart};
+ghost use Rattle.hn_streams.specs.Output.{AppendsPart};
 
 use hn_io::{IoFault, Sink};
-use hn_lab::{pieces_append, write_piece};
+use hn_streams::{pieces_append, write_piece};
 use memchr::memchr;
 
 /// Hands a text that ends with LF to a sink line by line, each with its LF.

@@ -30,7 +30,8 @@ use crate::status::{BAD_USAGE, DONE, NO_MEMORY, REFUSED, SINK_FAILED, SOURCE_FAI
 use crate::watch::run_watch;
 use crate::words::Form;
 use hn_io::{IoFault, Sink, Source};
-use hn_lab::{lab, read_all, transcript_exists, wire_fails_at_a_copy};
+use hn_lab::{lab, transcript_exists, wire_fails_at_a_copy};
+use hn_streams::read_all;
 use hn_wire::{Clock, Wire};
 use std::alloc::Global;
 

@@ -2,7 +2,7 @@ ghost use Rattle.std.specs.Prelude.{◌≡◌};
 ghost use Rattle.hn_run.specs.Decode.{written_status};
 
 use hn_io::IoFault;
-pub use hn_lab::{DONE, NO_MEMORY, REFUSED, SINK_FAILED, SOURCE_FAILED, WIRE_FAILED};
+pub use hn_streams::{DONE, NO_MEMORY, REFUSED, SINK_FAILED, SOURCE_FAILED, WIRE_FAILED};
 
 /// Bad usage: the words of the command line ask for nothing that there is; nothing was read or written.
 pub const BAD_USAGE: u8 = 1;

@@ -3,7 +3,7 @@
 ghost use Rattle.std.specs.Prelude.{◌≡◌, ◌≢◌, ◌⊎◌, ℕ, List, [], ◌∷◌, Err, OnOk, IfErr, Contains};
 ghost use Rattle.std.specs.Io.KnownBytes.{Appends};
 ghost use Rattle.hn_io.specs.Faults.{IsCaused};
-ghost use Rattle.hn_run.specs.Decode.{AppendsCut};
+ghost use Rattle.hn_streams.specs.Output.{AppendsCut};
 ghost use Rattle.hn_run.specs.Watch.{seen_line, watch_text, IsCapture, WritesWatch, CutsWatch, StarvesWatch};
 ghost use Rattle.hn_run.specs.Capture.{IsTextOf};
 
@@ -11,8 +11,8 @@ use crate::capture::read_capture;
 use crate::seen_text;
 use crate::status::{DONE, NO_MEMORY, REFUSED, SINK_FAILED, written_status};
 use hn_io::{IoFault, Sink};
-use hn_lab::{pieces_append, write_piece, write_refusal};
 use hn_script::{LARGE, ParseFault, SOURCE_LIMIT};
+use hn_streams::{pieces_append, write_piece, write_refusal};
 use hn_watch::{Seen, Watch};
 use std::alloc::Global;
 

@@ -17,7 +17,8 @@ use Rattle.hn_lab.specs.Line.{Noted, Delivered, Sets, OtherEnds, Follows, EndsAs
 use Rattle.hn_lab.specs.Play.{LineSaid}
 use Rattle.hn_lab.specs.PrefixReports.{use_line, prefix_line}
 use Rattle.hn_lab.specs.Report.{IsAbout, IsReport, ReportEnds, unless_report, unless_elects}
-use Rattle.hn_lab.specs.Reports.{note_line, refused_line}
+use Rattle.hn_lab.specs.Reports.{note_line}
+use Rattle.hn_streams.specs.Refusal.{refused_line}
 use Rattle.hn_lab.specs.Tells.{TellsSome, Reports, note_lines}
 use Rattle.hn_lab.specs.UlaReports.{ula_line}
 use Rattle.hn_spacing.proofs.InvariantsOfPlays.{IsInvariant}

@@ -1,5 +1,5 @@
 use Rattle.hn_base.proofs.Names.{◌≡◌, List, ℕ, ◌++◌, length, Appends}
-use Rattle.hn_lab.proofs.output.write_piece.Given as goal
+use Rattle.hn_streams.proofs.output.write_piece.Given as goal
 
 -- a front of the piece was written, and the rest is left
 abbrev pub invariant-loop-rest : goal.invariant-loop-rest

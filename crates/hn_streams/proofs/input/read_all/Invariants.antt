@@ -1,6 +1,6 @@
 use Rattle.hn_base.proofs.Names.{◌≡◌, ◌≤◌, ◌+◌, ◌-◌, length, Consumes}
 use Rattle.hn_script.specs.declared.script.TheConstants.{SOURCE_LIMIT}
-use Rattle.hn_lab.proofs.input.read_all.Given as goal
+use Rattle.hn_streams.proofs.input.read_all.Given as goal
 
 -- what was read so far
 abbrev pub invariant-loop-buf : goal.invariant-loop-buf

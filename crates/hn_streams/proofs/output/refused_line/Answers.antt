@@ -1,5 +1,5 @@
 use Rattle.hn_base.proofs.Names.{append_assoc}
-use Rattle.hn_lab.proofs.reports.refused_line.Goals as goal
+use Rattle.hn_streams.proofs.output.refused_line.Goals as goal
 
 pub returns : goal.returns
 returns c = simp append_assoc c.format.ensures.ok

@@ -5,6 +5,7 @@ tree the wheel is the same.
 """
 import base64
 import hashlib
+import io
 import os
 import re
 import tarfile
@@ -14,6 +15,9 @@ from typing import Dict, Optional
 HERE = os.path.dirname(os.path.abspath(__file__))
 PACKAGE = 'rulercress'
 SOURCES = ('pyproject.toml', 'README.md', 'wheels.py')
+KINDS = ('.py', '.typed', '.html', '.md')
+# The page that the command `explain` reads: it goes into the package, where the sources lie in a clone or an archive.
+PAGE, PAGE_IN_CLONE = f'{PACKAGE}/commands/FORMATS.md', '../docs/FORMATS.md'
 MOMENT = (1980, 1, 1, 0, 0, 0)      # the first that a zip file can tell
 
 
@@ -22,16 +26,25 @@ def read(path: str) -> bytes:
         return file.read()
 
 
-def told() -> Dict[str, str]:
-    """The texts of the table `project` of pyproject.toml. Python reads that format itself from 3.11 on alone."""
-    table = read('pyproject.toml').decode().split('[project]', 1)[1].split('\n[', 1)[0]
-    return dict(re.findall(r'(?m)^([a-z-]+) = "([^"]*)"$', table))
+def told(table: str = 'project') -> Dict[str, str]:
+    """The texts of a table of pyproject.toml. Python reads that format itself from 3.11 on alone."""
+    text = read('pyproject.toml').decode().split(f'[{table}]', 1)[1].split('\n[', 1)[0]
+    return dict(re.findall(r'(?m)^([a-z-]+) = "([^"]*)"$', text))
 
 
 def files_of(folder: str) -> Dict[str, bytes]:
-    """The files of a folder of the sources."""
-    names = sorted(name for name in os.listdir(os.path.join(HERE, folder)) if name.endswith(('.py', 'py.typed')))
-    return {f'{folder}/{name}': read(f'{folder}/{name}') for name in names}
+    """The files of a folder of the sources, and of those in it."""
+    whole = os.path.join(HERE, folder)
+    paths = [os.path.relpath(os.path.join(at, name), HERE) for at, _, names in os.walk(whole) for name in names if name.endswith(KINDS)]
+    return {path: read(path) for path in sorted(paths)}
+
+
+def package() -> Dict[str, bytes]:
+    """The files of the package."""
+    files = files_of(PACKAGE)
+    if PAGE not in files and os.path.isfile(os.path.join(HERE, PAGE_IN_CLONE)):
+        files[PAGE] = read(PAGE_IN_CLONE)
+    return files
 
 
 def metadata(project: Dict[str, str]) -> bytes:
@@ -40,12 +53,18 @@ def metadata(project: Dict[str, str]) -> bytes:
     return head.encode() + read(project['readme'])
 
 
+def scripts() -> str:
+    """The commands that pip makes."""
+    return '[console_scripts]\n' + ''.join(f'{name} = {target}\n' for name, target in told('project.scripts').items())
+
+
 def write_wheel(folder: str, files: Dict[str, bytes]) -> str:
     """Writes a wheel of these files to a folder, and gives its name."""
     project = told()
     stem = f'{project["name"]}-{project["version"]}'
     about = f'{stem}.dist-info'
     whole = {**files, f'{about}/METADATA': metadata(project),
+             f'{about}/entry_points.txt': scripts().encode(),
              f'{about}/WHEEL': b'Wheel-Version: 1.0\nGenerator: wheels.py\nRoot-Is-Purelib: true\nTag: py3-none-any\n'}
     record = ''
     for path, data in whole.items():
@@ -64,7 +83,7 @@ def write_wheel(folder: str, files: Dict[str, bytes]) -> str:
 
 def build_wheel(wheel_directory: str, config_settings: Optional[dict] = None, metadata_directory: Optional[str] = None) -> str:
     """The wheel of the package: pip calls this."""
-    return write_wheel(wheel_directory, files_of(PACKAGE))
+    return write_wheel(wheel_directory, package())
 
 
 def build_editable(wheel_directory: str, config_settings: Optional[dict] = None, metadata_directory: Optional[str] = None) -> str:
@@ -77,6 +96,8 @@ def build_sdist(sdist_directory: str, config_settings: Optional[dict] = None) ->
     project = told()
     stem = f'{project["name"]}-{project["version"]}'
     with tarfile.open(os.path.join(sdist_directory, f'{stem}.tar.gz'), 'w:gz') as archive:
-        for path in [*SOURCES, *files_of(PACKAGE), *files_of('tests')]:
-            archive.add(os.path.join(HERE, path), f'{stem}/{path}')
+        for path, data in {**{path: read(path) for path in SOURCES}, **package(), **files_of('tests')}.items():
+            entry = tarfile.TarInfo(f'{stem}/{path}')
+            entry.size = len(data)
+            archive.addfile(entry, io.BytesIO(data))
     return f'{stem}.tar.gz'

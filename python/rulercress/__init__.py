@@ -14,11 +14,32 @@
 The programs are those of the variables HNCP and HNLOOK; else those built in the clone of which the package is a part; else
 those on the path.
 """
-from .campaigns import campaign, many, shard
-from .errors import Malformed, NotReached, Problem, Refused, SeedsFailed
-from .home import Change, Home
-from .parts import Copy, Link, Router
-from .reports import Assigned, Audit, Item, State, Used, Why, decode
+from importlib import import_module
+from typing import TYPE_CHECKING, Any
+
+if TYPE_CHECKING:
+    from .campaigns import campaign, many
+    from .errors import Malformed, NotReached, Problem, Refused, SeedsFailed
+    from .home import Change, Home
+    from .parts import Copy, Link, Router
+    from .reports import Assigned, Audit, Item, State, Used, Why, decode
+    from .shards import shard
 
 __all__ = ['Assigned', 'Audit', 'Change', 'Copy', 'Home', 'Item', 'Link', 'Malformed', 'NotReached', 'Problem', 'Refused', 'Router',
            'SeedsFailed', 'State', 'Used', 'Why', 'campaign', 'decode', 'many', 'shard']
+# Which module has which names. A module is loaded with the first of its names, so that a command of the package begins quickly.
+_MODULES = {
+    'campaigns': ('campaign', 'many'),
+    'errors': ('Malformed', 'NotReached', 'Problem', 'Refused', 'SeedsFailed'),
+    'home': ('Change', 'Home'),
+    'parts': ('Copy', 'Link', 'Router'),
+    'reports': ('Assigned', 'Audit', 'Item', 'State', 'Used', 'Why', 'decode'),
+    'shards': ('shard',),
+}
+
+
+def __getattr__(name: str) -> Any:
+    for module, names in _MODULES.items():
+        if name in names:
+            return getattr(import_module(f'.{module}', __name__), name)
+    raise AttributeError(f'module {__name__} has no {name}')

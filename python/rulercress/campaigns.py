@@ -2,7 +2,6 @@
 import argparse
 import multiprocessing
 import os
-import re
 import sys
 import traceback
 from concurrent import futures
@@ -10,29 +9,15 @@ from concurrent.futures.process import BrokenProcessPool
 from typing import Callable, Dict, Iterator, List, Optional, Sequence, Tuple, TypeVar
 
 from .errors import Problem, SeedsFailed
+from .shards import processors, shard
 
 Result = TypeVar('Result')
 FINDINGS = 3              # the status of a campaign with findings
 SHARES = 64               # into which the seeds of a process are parted, so that all processes end at about one time
-SHARD = re.compile(r'(\d{1,9})/(\d{1,9})')
 # A seed, its result, what was raised as text, and whether that ends the campaign.
 Outcome = Tuple[int, object, Optional[str], bool]
 
 _function: Optional[Callable[[int], object]] = None     # of the pool that is at work; processes that fork inherit it
-
-
-def shard(seeds: Sequence[int], part: str) -> List[int]:
-    """The seeds of part K of N, where `part` is `K/N` with K from 1 to N: each Nth one. So the parts together have each seed
-    once, wherever they run, and homes that take long come to all of them."""
-    found = SHARD.fullmatch(part)
-    if not found or not 1 <= int(found[1]) <= int(found[2]):
-        raise ValueError(f'{part} is no K/N with K from 1 to N')
-    return list(seeds)[int(found[1]) - 1::int(found[2])]
-
-
-def processors() -> int:
-    """How many processors this process may use."""
-    return len(os.sched_getaffinity(0)) if hasattr(os, 'sched_getaffinity') else os.cpu_count() or 1
 
 
 def _begin(function: Callable[[int], object]) -> None:

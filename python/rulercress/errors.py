@@ -27,7 +27,7 @@ MEANINGS: Dict[int, str] = {
 
 
 class Problem(Exception):
-    """Something outside of the home: a program that is missing or failed."""
+    """What keeps a home or a command from going on, as one line for a reader: a program that is missing or failed, or an input."""
 
 
 class Refused(Exception):

@@ -2,10 +2,8 @@
 import contextlib
 import os
 import sys
-import tempfile
 from typing import Callable, Dict, Iterator, List, NamedTuple, Optional, Union
 
-from . import programs
 from .by_programs import ProgramPlay
 from .errors import NotReached, Problem
 from .log import Sent
@@ -68,17 +66,15 @@ class Home:
 
     def timeline(self, path: Union[str, 'os.PathLike[str]']) -> List[Change]:
         """Writes the page of `tools/timeline` to a file, and gives what changed when. It plays the home some times."""
-        with tempfile.TemporaryDirectory() as folder:
-            script = os.path.join(folder, 'home.script')
-            self.save(script)
-            text = programs.tell([programs.timeline(), '--html', os.fspath(path), script])
-        rows = [line.split('\t', 2) for line in text.splitlines()]
-        return [Change(int(moment) / MILLISECONDS, whom, what) for moment, whom, what in rows]
+        from .commands import timeline      # it takes a while to load, and few homes need it
+        told = timeline.told_of(self.play.lines)
+        timeline.write_page(told, path, 'home.script')
+        return [Change(moment / MILLISECONDS, whom, what) for moment, whom, what in timeline.rows(told)]
 
     @contextlib.contextmanager
     def saved_if_failing(self, stem: Union[str, 'os.PathLike[str]']) -> Iterator['Home']:
-        """If what is done in it raises, writes STEM.script and, where tools/timeline is there, STEM.html, and says so on
-        standard error with what was told last: pytest shows that beside a failed assertion."""
+        """If what is done in it raises, writes STEM.script and, where hnlook is there, STEM.html, and says so on standard
+        error with what was told last: pytest shows that beside a failed assertion."""
         try:
             yield self
         except BaseException:

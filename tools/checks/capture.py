@@ -5,9 +5,9 @@ import os
 import subprocess
 
 import common
-import looks
 from checks import samples
 from checks.helpers import lines_of, must, must_be, need, need_look, run, short
+from rulercress.tools import looks
 
 LOSSY = ['a_lossy_home.script', 'a_router_begins_anew.script']
 CAPTURED = ['two_routers_meet.script', 'a_short_outage.script', 'a_triangle_of_gateways.script', 'a_forging_guest.script'] + LOSSY

@@ -19,8 +19,8 @@ import common
 from checks import faulty
 from checks.helpers import SEED, Missing, Wrong, must, need
 from checks.namespaces import Namespaces
-from examining import running  # noqa: F401: it puts the examinations down
-from examining.catalogue import ALL, LONG, MUST
+from rulercress.tools.examining import running  # noqa: F401: it puts the examinations down
+from rulercress.tools.examining.catalogue import ALL, LONG, MUST
 
 ROOT = os.path.join(common.HERE, '..')
 LIBRARY = os.path.join(ROOT, 'crates', 'hn_router_c', 'out', 'libhn_router_c.a')

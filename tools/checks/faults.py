@@ -3,10 +3,10 @@ import copy
 import itertools
 import struct
 
-import items
-from captures import Datagram
 from checks import homes
 from checks.samples import packed, tlv
+from rulercress.tools import items
+from rulercress.tools.captures import Datagram
 
 REQUEST = tlv(1, b'')
 ENDPOINT, NETWORK_STATE, NODE_STATE = 3, 4, 5

@@ -11,7 +11,7 @@ import sys
 import time
 
 import common
-from checks.helpers import must, must_be, run
+from checks.helpers import copy_tools, must, must_be, run
 
 NAMES = ['soak-32', 'soak-8', 'ring-8-idle', 'ring-8-prefix', 'ring-32-prefix', 'link-64', 'link-64-prefix', 'ring-16-prefixes',
          'link-128-loss']
@@ -216,10 +216,8 @@ def put_page(page, text):
 
 def check_page(folder):
     """A copy of the tool beside a page: the table stands between its marks, or the page stays as it was."""
-    for name in ['tools', 'docs']:
-        os.mkdir(os.path.join(folder, name))
-    for name in ['bench', 'cases.py', 'common.py']:
-        shutil.copy(os.path.join(common.HERE, name), os.path.join(folder, 'tools'))
+    os.mkdir(os.path.join(folder, 'docs'))
+    copy_tools(folder, 'bench', 'cases.py', 'common.py')
     begin, end = MARKS
     pages = check_pages_that_stay(folder, begin, end) + check_pages_that_are_written(folder, begin, end)
     own = read_page(os.path.join(common.HERE, '..', 'docs', 'BENCHMARKS.md'))

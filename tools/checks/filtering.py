@@ -19,11 +19,11 @@ import time
 
 sys.dont_write_bytecode = True
 sys.path.insert(0, os.path.join(os.path.dirname(os.path.realpath(__file__)), '..'))
-import items
-import links
+import common  # noqa: F401: it finds the package
 from checks import faulty
-from examining import frames, wire
-from examining.wire import NETWORK_STATE, NODE_ENDPOINT, NODE_STATE, PORT, REQUEST_NETWORK, REQUEST_NODE, tlv
+from rulercress.tools import items, links
+from rulercress.tools.examining import frames, wire
+from rulercress.tools.examining.wire import NETWORK_STATE, NODE_ENDPOINT, NODE_STATE, PORT, REQUEST_NETWORK, REQUEST_NODE, tlv
 
 ASKING = 8232             # the port from which the filter asks the device
 PATIENCE = 0.4            # seconds to wait for an answer of the device

@@ -7,7 +7,7 @@ import subprocess
 import cases
 import common
 from checks.figures import (bench, must_fail, number, program, put_page, put_program, python, read_page, rows, table_of)
-from checks.helpers import must, must_be, need_look, run
+from checks.helpers import copy_tools, must, must_be, need_look, run
 
 FORMS = {case.name: case for case in cases.FORMS}
 # The SHA-256 of inputs, and before the shorter ones of differences a word.
@@ -181,10 +181,8 @@ def check_failures(folder):
 
 def check_page(folder):
     """Each of the two tables has its place, and a call writes one of them: here that of all forms, without valgrind."""
-    for name in ['tools', 'docs']:
-        os.mkdir(os.path.join(folder, name))
-    for name in ['bench', 'cases.py', 'common.py']:
-        shutil.copy(os.path.join(common.HERE, name), os.path.join(folder, 'tools'))
+    os.mkdir(os.path.join(folder, 'docs'))
+    copy_tools(folder, 'bench', 'cases.py', 'common.py')
     page, stand_in = os.path.join(folder, 'docs', 'BENCHMARKS.md'), python(folder, 'stand-in', STAND_IN)
     words = ['--forms', '--write', *QUICK, '--program', stand_in, '--look', stand_in]
     put_page(page, HOMES)

@@ -5,10 +5,10 @@ import os
 import struct
 import sys
 
-import items
 from checks import faults, homes, samples
 from checks.helpers import lines_of, must, run
-from judging.judgement import judge
+from rulercress.tools import items
+from rulercress.tools.judging.judgement import judge
 
 LINKS = {(1, 1): 10, (2, 1): 10, (2, 2): 20, (3, 1): 20}    # the VLAN of each endpoint of the sound home
 TAG, OUTER = 0x8100, 0x88a8

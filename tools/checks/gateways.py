@@ -5,14 +5,13 @@ import re
 import shutil
 import struct
 
-import captures
 import common
-import items
 from checks import faults, frames, homes, samples, talks
 from checks.helpers import SEED, lines_of, must, must_be, run, short
-from judging.judgement import Judgement, judge
-from judging.rules import TOLD
-from judging.text import text_of
+from rulercress.tools import captures, items
+from rulercress.tools.judging.judgement import Judgement, judge
+from rulercress.tools.judging.rules import TOLD
+from rulercress.tools.judging.text import text_of
 
 PAGE = os.path.join(common.HERE, '..', 'docs', 'BESIDE-REAL-GATEWAYS.md')
 MUTANTS = 10000

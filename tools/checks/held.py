@@ -8,8 +8,8 @@ import ipaddress
 import struct
 
 import common
-import logs
 from checks.helpers import must
+from rulercress.tools import logs
 
 NODE_ENDPOINT, NETWORK_STATE, NODE_STATE, PEER, KEEP_ALIVE, VERSION, EXTERNAL, DELEGATED = 3, 4, 5, 8, 9, 32, 33, 34
 ENDLESS = 2 ** 32 - 1            # seconds

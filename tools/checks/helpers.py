@@ -48,6 +48,18 @@ def need(*names):
             raise Missing(f'there is no {name}')
 
 
+def copy_tools(folder, *names):
+    """Puts copies of these tools, or of all, into a folder, beside a copy of the package that they are made of."""
+    tools, kept = os.path.join(folder, 'tools'), shutil.ignore_patterns('__pycache__', 'tests')
+    shutil.copytree(os.path.join(os.path.dirname(common.HERE), 'python'), os.path.join(folder, 'python'), ignore=kept)
+    if not names:
+        shutil.copytree(common.HERE, tools, ignore=kept)
+        return
+    os.mkdir(tools)
+    for name in names:
+        shutil.copy(os.path.join(common.HERE, name), tools)
+
+
 def looks_in():
     """Whether the program hnlook is there."""
     try:

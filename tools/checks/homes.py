@@ -7,9 +7,9 @@ and endpoint 1 of node 3 on another.
 import os
 import struct
 
-import captures
 import common
 from checks import samples
+from rulercress.tools import captures
 
 HOME = os.path.join(common.HERE, 'checks', 'home.datagrams')
 TALKS = os.path.join(common.HERE, 'checks', 'talks')

@@ -7,10 +7,9 @@ import collections
 import random
 
 import common
-import logs
-import looks
 from checks import loopback, samples, unrolled
 from checks.helpers import SEED, Missing, must, must_be, need_look
+from rulercress.tools import logs, looks
 
 AT_ONCE = 100        # scripts whose datagrams are heard by one child
 TRIED_DROPS = 3      # of each script so many dropped copies are delivered in a play of its own

@@ -4,14 +4,13 @@ import itertools
 import os
 import random
 import re
-import shutil
 import struct
 import subprocess
 
 import common
-import items
 from checks import samples
-from checks.helpers import SEED, is_static, lines_of, looks_in, must, must_be, need, run, short
+from checks.helpers import SEED, copy_tools, is_static, lines_of, looks_in, must, must_be, need, run, short
+from rulercress.tools import items
 
 MEETING = ['link lan', 'router A 00000001', 'router B 00000002', 'attach A 1 lan', 'attach B 1 lan', 'external A 2001:db8::/56 7200 3600']
 REPORTS = ('show', 'hash', 'used', 'prefixes', 'elect', 'advert', 'audit', 'compare', 'mail', 'addresses', 'addressed', 'ulas')
@@ -297,10 +296,8 @@ def check_explain(folder):
     must(len(explained) >= 10, f'too few codes: {explained}')
     check_words(folder, page)
     # The page is read each time: a copy of the tool beside another page says what that page says.
-    for name in ['tools', 'docs']:
-        os.mkdir(os.path.join(folder, name))
-    for name in ['common.py', 'items.py', 'explain']:
-        shutil.copy(os.path.join(common.HERE, name), os.path.join(folder, 'tools'))
+    os.mkdir(os.path.join(folder, 'docs'))
+    copy_tools(folder, 'common.py', 'explain')
     with open(os.path.join(folder, 'docs', 'FORMATS.md'), 'w') as file:
         file.write(''.join(f'## {section}\n\n| Code | Refused if |\n|---|---|\n| 77 | the `{what}` is another |\n'
                            for section, what in [('Scripts', 'page'), ('Captures', 'capture')]))

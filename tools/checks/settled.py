@@ -9,10 +9,10 @@ import ipaddress
 import random
 
 import common
-import looks
 from checks import faults, samples
 from checks.helpers import SEED, Missing, must, need_look
-from items import hash_of
+from rulercress.tools import looks
+from rulercress.tools.items import hash_of
 
 REPORTS = ['audit', 'show', 'used', 'prefixes']     # of each running router, in this order
 AT_REST = ['settled=yes', 'quiet=yes']

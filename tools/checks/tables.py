@@ -9,11 +9,11 @@ import random
 import struct
 
 import common
-import logs
 from checks import faults, held, samples
 from checks.helpers import SEED, Missing, lines_of, must, must_be, need_look
 from checks.held import DELEGATED, ENDLESS, EXTERNAL, KEEP_ALIVE, PEER, VERSION
-from items import hash_of, network_state
+from rulercress.tools import logs
+from rulercress.tools.items import hash_of, network_state
 
 LATER = 4000                     # milliseconds: the longest backoff (RFC 7788, section 6.3.1)
 COUNTED = 'table peer assigned backoff used'.split()

@@ -15,7 +15,7 @@ import copy
 
 from checks import faults, homes
 from checks.helpers import must
-from judging.judgement import judge
+from rulercress.tools.judging.judgement import judge
 
 # Of each capture what judge has to find, and of what it tells beside.
 FOUND = {

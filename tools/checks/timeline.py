@@ -7,12 +7,10 @@ import random
 import re
 
 import common
-import hosts
-import looks
-import sums
 from checks import loopback, samples, unrolled
 from checks.browser import Browser
 from checks.helpers import SEED, Missing, lines_of, must, must_be, need_look, run, short
+from rulercress.tools import hosts, looks, sums
 
 LOOKED = 'two_routers_meet.script'          # each round of it is played by itself
 PAGES = ['a_power_cut.script', 'hosts_are_told_of_a_new_prefix.script', 'a_lossy_home.script', 'a_forging_guest.script']

@@ -4,8 +4,8 @@ It knows nothing of hnlook. Which copies wait when is found by `mail` lines and 
 against the log.
 """
 import common
-import looks
 from common import Problem
+from rulercress.tools import looks
 
 
 class Probe:

@@ -7,8 +7,8 @@ import string
 import struct
 
 import common
-import items
 from checks import samples
+from rulercress.tools import items
 
 # Scripts of the repository that take long to play, and those above so many bytes, are not changed.
 MOST_SEED = 20000

@@ -5,8 +5,8 @@ import time
 
 from checks.faulty.base import (assigned, delegations, drops_states, each_of, edited, edits_states, has_peer, is_news, own, part, prefix_in, published,
                                 put, read, since, spelled, within)
-from examining import wire
-from examining.wire import ASSIGNED, DELEGATED, EXTERNAL, NODE_ENDPOINT, PEER, VERSION, four, number, tlv
+from rulercress.tools.examining import wire
+from rulercress.tools.examining.wire import ASSIGNED, DELEGATED, EXTERNAL, NODE_ENDPOINT, PEER, VERSION, four, number, tlv
 
 
 # Prefixes

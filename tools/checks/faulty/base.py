@@ -15,8 +15,9 @@ A fault has hooks, which the filter calls with itself and what is on its way:
 import ipaddress
 import time
 
-from examining import frames, wire
-from examining.wire import ASSIGNED, DELEGATED, DHCPV6, EXTERNAL, NETWORK_STATE, NODE_STATE, PEER, four, tlv
+from rulercress.tools.examining import frames, wire
+from rulercress.tools.examining.wire import ASSIGNED, DELEGATED, DHCPV6, EXTERNAL, NETWORK_STATE, NODE_STATE, PEER, four, tlv
+
 
 FAULTS = {}
 

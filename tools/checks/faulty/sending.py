@@ -1,12 +1,12 @@
 """Faults of what a device answers and says of itself, of when it sends, and of its peers."""
 import time
 
-import items
 from checks.faulty.base import (answers, each_of, edited, is_news, mark, own, put, read, since, theirs, watches_news, without)
-from examining import frames, wire
-from examining.neighbour import node_state
-from examining.wire import (KEEP_ALIVE, NETWORK_STATE, NODE_ENDPOINT, NODE_STATE, PEER, REQUEST_NETWORK, REQUEST_NODE, VERSION, four,
-                            number, tlv)
+from rulercress.tools import items
+from rulercress.tools.examining import frames, wire
+from rulercress.tools.examining.neighbour import node_state
+from rulercress.tools.examining.wire import (KEEP_ALIVE, NETWORK_STATE, NODE_ENDPOINT, NODE_STATE, PEER, REQUEST_NETWORK, REQUEST_NODE,
+                                             VERSION, four, number, tlv)
 
 
 # What it answers, and what its data are

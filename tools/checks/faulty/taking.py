@@ -2,11 +2,11 @@
 import struct
 import time
 
-import items
 from checks.faulty.base import (answers, drops_states, each_of, edited, edits_states, FAULTS, has_peer, mark, own, published, put,
                                 read, since, spelled, states_in)
-from examining import frames
-from examining.wire import NETWORK_STATE, NODE_ENDPOINT, NODE_STATE, PEER, REQUEST_NODE, VERSION, four, number, tlv
+from rulercress.tools import items
+from rulercress.tools.examining import frames
+from rulercress.tools.examining.wire import NETWORK_STATE, NODE_ENDPOINT, NODE_STATE, PEER, REQUEST_NODE, VERSION, four, number, tlv
 
 
 # States

@@ -1,0 +1,1 @@
+"""What the commands share: TLVs, captures, logs, looks, hosts, judging and examining."""

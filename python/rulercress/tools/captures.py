@@ -1,0 +1,206 @@
+"""The datagrams of a capture, as tshark reads it."""
+import bisect
+import functools
+import os
+import re
+import shutil
+import subprocess
+
+from . import common, items
+from .common import Problem
+
+PORT = 8231       # RFC 7788, section 3
+HEADER = 8        # bytes of a UDP header, which udp.length counts
+UDP = '17'
+BATCH = 2 ** 18   # bytes that are decoded by one call
+# Which link a frame is of: the interface of the capture, that of `tcpdump -i any`, and the tags of VLANs.
+LINK = ['frame.interface_id', 'sll.ifindex', 'ieee8021ad.id', 'ieee8021ad.svid', 'ieee8021ad.cvid', 'vlan.id']
+FRAGMENT = ['ipv6.fraghdr.ident', 'ipv6.fraghdr.offset', 'ipv6.fraghdr.nxt', 'ip.id', 'ip.frag_offset', 'ip.flags.mf', 'ip.proto', 'data.data']
+FIELDS = ['frame.number', 'frame.time_relative', *LINK, 'ipv6.src', 'ipv6.dst', 'ip.src', 'ip.dst', 'udp.srcport', 'udp.dstport',
+          'udp.length', 'udp.payload', *FRAGMENT]
+FRAGMENTED = 'ipv6.fraghdr || ip.flags.mf == 1 || ip.frag_offset > 0'
+
+
+class Datagram:
+    """A UDP datagram: the frame that ended it, its moment in seconds after the first frame, the link as the capture knows it, both
+    addresses and ports, the bytes that the capture has, and how many bytes it had."""
+
+    def __init__(self, frame, moment, link, source, source_port, destination, port, payload, length=None):
+        self.frame = frame
+        self.moment = moment
+        self.link = link
+        self.source = source
+        self.source_port = source_port
+        self.destination = destination
+        self.port = port
+        self.payload = payload
+        self.length = len(payload) if length is None else length
+        self.text = None
+
+    @property
+    def is_cut(self):
+        return self.length != len(self.payload)
+
+    @property
+    def lines(self):
+        """What `hncp decode` says of it."""
+        if self.text is None:
+            self.text = decoded(self.payload)
+        return self.text
+
+
+@functools.lru_cache(maxsize=4096)
+def decoded(payload):
+    """The lines of `hncp decode` for these bytes; a capture has many datagrams more than once."""
+    lines = common.decode(payload.hex())
+    if not lines or lines[0].split()[:1] not in (['tlvs'], ['malformed']):
+        raise Problem(f'{common.program()} decode writes "{"".join(lines[:1])[:60]}"; it is no hncp')
+    return lines
+
+
+def decode_all(payloads):
+    """What `hncp decode` says of each: a table. Lists of TLVs one after another are one list, which a single call decodes; what is
+    no list has a call of its own."""
+    texts, batch, size = {}, [], 0
+    for payload in dict.fromkeys(payloads):
+        if items.list_fault(payload):
+            texts[payload] = decoded(payload)
+            continue
+        batch.append(payload)
+        size += len(payload)
+        if size > BATCH:
+            decode_batch(batch, texts)
+            batch, size = [], 0
+    decode_batch(batch, texts)
+    return texts
+
+
+def decode_batch(batch, texts):
+    """Decodes lists of TLVs by one call, and gives each the lines that it would have alone."""
+    starts, found = [0], [[] for _ in batch]
+    for payload in batch:
+        starts.append(starts[-1] + len(payload))
+    for line in decoded(b''.join(batch))[1:] if batch else []:
+        indent, place, rest = re.match(r'( *)(\d+)(.*)', line, re.S).groups()
+        at = bisect.bisect_right(starts, int(place)) - 1
+        found[at].append(f'{indent}{int(place) - starts[at]}{rest}')
+    for payload, lines in zip(batch, found):
+        texts[payload] = [f'tlvs {sum(not line.startswith(" ") for line in lines)}', *lines]
+
+
+def decoded_ahead(datagrams):
+    """The same datagrams, whose texts are made by few calls."""
+    waiting, size = [], 0
+    for datagram in datagrams:
+        waiting.append(datagram)
+        size += len(datagram.payload)
+        if size > BATCH:
+            yield from with_texts(waiting)
+            waiting, size = [], 0
+    yield from with_texts(waiting)
+
+
+def with_texts(datagrams):
+    texts = decode_all(each.payload for each in datagrams if not each.is_cut)
+    for each in datagrams:
+        each.text = texts.get(each.payload)
+    return datagrams
+
+
+def ports_of(given, parsed):
+    """The ports of the words `-p PORT`, 8231 without any."""
+    ports = [common.number(word, 65535) for word in parsed.ports or [str(PORT)]]
+    if None in ports:
+        given.error(f'{parsed.ports[ports.index(None)]} is no port')
+    return ports
+
+
+PORTS = ('-p', {'metavar': 'PORT', 'dest': 'ports', 'action': 'append', 'help': 'another port than 8231; may be repeated'})
+CAPTURE = ('capture', {'metavar': 'CAPTURE', 'help': 'a file that tshark reads'})
+
+
+def last(text):
+    """The value of a field in the innermost packet of a frame."""
+    return text.rpartition(',')[2]
+
+
+def link_of(values):
+    """The link of a frame: the values that say it, but for tags of VLAN 0, which are none."""
+    said = [[each for each in values[name].split(',') if each and (name == LINK[0] or each != '0')] for name in LINK]
+    return ' '.join([','.join(said[0]) or '0', *(f'{name.rpartition(".")[2]}={",".join(each)}' for name, each in zip(LINK[1:], said[1:]) if each)])
+
+
+def datagram_of(values):
+    """The datagram of a frame's fields."""
+    values = {**{name: last(text) for name, text in values.items()}, 'link': link_of(values)}
+    source, destination = (values['ipv6.' + way] or values['ip.' + way] for way in ('src', 'dst'))
+    payload = bytes.fromhex(values['udp.payload'].replace(':', ''))
+    length = int(values['udp.length'] or 0)
+    return Datagram(int(values['frame.number']), float(values['frame.time_relative']), values['link'], source,
+                    int(values['udp.srcport']), destination, int(values['udp.dstport']), payload, length - HEADER if length else None)
+
+
+class Capture:
+    """The datagrams from or to one of the ports, in the order of their frames. Fragments are joined; datagrams with a missing
+    fragment are left out, and how many is known at the end. Packets within ICMP errors are left out too."""
+
+    def __init__(self, path, ports):
+        self.path, self.ports = path, ports
+        self.parts = {}     # of each fragmented datagram the port that is known of it, or None; 0 where it is whole, or not of HNCP
+
+    @property
+    def left_out(self):
+        """How many datagrams are not whole. Where the first fragment is missing, nobody knows the port; they count too."""
+        return sum(port is None or port in self.ports for port in self.parts.values())
+
+    def words(self):
+        tshark = shutil.which('tshark')
+        if not tshark:
+            raise Problem('there is no tshark; on Debian: apt-get install tshark')
+        if not os.path.isfile(self.path):
+            raise Problem(f'there is no file {self.path}')
+        wanted = ' || '.join(f'udp.port == {port}' for port in self.ports)
+        words = [tshark, '-n', '-r', self.path, '-o', 'ipv6.defragment:TRUE', '-o', 'ip.defragment:TRUE']
+        words += ['-Y', f'({wanted} || {FRAGMENTED}) && !icmp && !icmpv6', '-T', 'fields', '-E', 'separator=/t', '-E', 'occurrence=a']
+        return words + [word for field in FIELDS for word in ('-e', field)]
+
+    def __iter__(self):
+        """What the capture has. Without any datagram it is a problem, and so is one that breaks off, after what it has."""
+        found = False
+        with subprocess.Popen(self.words(), stdout=subprocess.PIPE, stderr=subprocess.PIPE) as run:
+            for line in run.stdout:
+                values = dict(zip(FIELDS, line.decode('ascii', 'replace').rstrip('\n').split('\t')))
+                self.take_fragment(values)
+                ports = {int(last(values[name]) or 0) for name in ('udp.srcport', 'udp.dstport')}
+                if ports & set(self.ports):
+                    found = True
+                    yield datagram_of(values)
+            faults = [text for text in run.stderr.read().decode('utf-8', 'replace').splitlines() if not text.startswith('Running as user')]
+        if run.returncode != 0:
+            raise Problem(faults[0] if faults else f'tshark ended with status {run.returncode}')
+        if not found:
+            raise Problem(f'{self.path} has no HNCP: no UDP datagram from or to port {" or ".join(map(str, self.ports))}{self.more()}')
+
+    def more(self):
+        return f'; {self.left_out} datagram(s) with a missing fragment were left out' if self.left_out else ''
+
+    def take_fragment(self, values):
+        """Puts down what a frame says of a fragmented datagram. One that is joined has its ports in the frame that ended it."""
+        six, four = last(values['ipv6.fraghdr.ident']), last(values['ip.id'])
+        if six:
+            key, offset, kind = six, last(values['ipv6.fraghdr.offset']), last(values['ipv6.fraghdr.nxt'])
+        elif '1' in values['ip.flags.mf'] or 'True' in values['ip.flags.mf'] or last(values['ip.frag_offset']) not in ('', '0'):
+            key, offset, kind = four, last(values['ip.frag_offset']), last(values['ip.proto'])
+        else:
+            return
+        key = last(values['ipv6.src'] or values['ip.src']), last(values['ipv6.dst'] or values['ip.dst']), key
+        if values['udp.srcport'] or kind != UDP:
+            self.parts[key] = 0
+        elif self.parts.setdefault(key, None) is None and offset == '0' and len(last(values['data.data'])) >= 8:
+            ports = [int(last(values['data.data'])[place:place + 4], 16) for place in (0, 4)]
+            self.parts[key] = next((port for port in ports if port in self.ports), 0)
+
+
+def read(path, ports):
+    """The datagrams of a capture from or to one of the ports."""
+    return iter(Capture(path, ports))

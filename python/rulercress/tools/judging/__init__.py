@@ -1,0 +1,1 @@
+"""Says who violates what in datagrams, and which home they show."""

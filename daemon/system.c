@@ -45,7 +45,7 @@ _Noreturn void fail(int status, const char *what, const char *why)
 {
     fprintf(stderr, "hnd: %s: %s\n", what, why);
     if (status == BAD_ARGUMENTS)
-        fputs("usage: hnd [-afLPrs] [-c SOCKET] [-d ADDRESS].. [-i IDENTIFIER] [-k FILE] [-p PREFIX/LENGTH:VALID:PREFERRED]..\n"
+        fputs("usage: hnd [-afLPrsU] [-c SOCKET] [-d ADDRESS].. [-i IDENTIFIER] [-k FILE] [-p PREFIX/LENGTH:VALID:PREFERRED]..\n"
               "           [-t SECONDS] [-u USER] INTERFACE..\n       hnd -c SOCKET -x COMMAND\n", stderr);
     exit(status);
 }

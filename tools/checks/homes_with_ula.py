@@ -66,8 +66,9 @@ class Home(on_links.Home):
             self.make()
             for router in self.routers.values():
                 router.start()
+            begun = time.monotonic()
             self.delegated = [self.made()]
-            self.must_rest('made')
+            self.must_rest('made', begun)
             self.must_be_given_by({self.last}, self.delegated[0])
             self.play_restarts()
             self.play_cut()
@@ -116,9 +117,10 @@ class Home(on_links.Home):
 
     def play_off(self):
         """A router makes none any more, so another one does; then none does."""
+        begun = time.monotonic()
         self.routers[self.last].tell('ula off')
         self.delegated = [self.made(*self.delegated)]
-        self.must_rest('off')
+        self.must_rest('off', begun)
         self.must_be_given_by(set(self.routers) - {self.last}, self.delegated[0])
         for router in self.routers.values():
             router.tell('ula off')

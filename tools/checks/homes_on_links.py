@@ -31,12 +31,13 @@ LIBRARY = os.path.join(TOP, 'crates', 'hn_router_c', 'out', 'libhn_router_c.a')
 HERE = os.path.dirname(os.path.abspath(__file__))
 FIRST, SECOND = ipaddress.ip_network('2001:db8:a:100::/56'), ipaddress.ip_network('2001:db8:b:200::/56')
 PROTOCOL = '44'                   # of the daemon's routes
-SETTLES = 200                     # seconds within which a home comes to rest, on a busy machine, too
+SETTLES = 400                     # seconds within which a home comes to rest, on a machine however busy
+PATIENCE = 120                    # seconds within which a daemon answers, or ends
 LEFT = 16                         # seconds for which a daemon keeps what an earlier one left
 REACHES = 5                       # seconds for which a host asks for echoes before all is looked at again
 SILENT = 45                       # seconds after which a router that is silent is lost
 AT_REST, FLOODED = 3000, 50000    # kB of memory at most: at rest, and whatever strangers do
-TABLE, CROWDED = 256, 180         # other nodes that a router knows at most, and seconds in which a crowd comes to all routers
+TABLE, CROWDED = 256, 900         # other nodes that a router knows at most, and seconds in which a crowd comes to all routers
 FLOOD = 50000, 5                  # datagrams a second, and seconds
 SHOWN = 1500                      # commands that write to the log that nobody reads: 200 kB or more
 STRANGER = 20                     # seconds for which each set of prefixes is told
@@ -158,7 +159,7 @@ class Router:
     def tell(self, command):
         """Hands a command to the daemon, and gives the lines of the reply. The last one has to be `ok`."""
         with socket.socket(socket.AF_UNIX) as to:
-            to.settimeout(20)
+            to.settimeout(PATIENCE)
             to.connect(self.socket)
             to.sendall(f'{command}\n'.encode())
             text = b''.join(iter(lambda: to.recv(65536), b'')).decode()
@@ -168,7 +169,7 @@ class Router:
 
     def end(self, how):
         self.daemon.send_signal(how)
-        status = self.daemon.wait(timeout=20)
+        status = self.daemon.wait(timeout=PATIENCE)
         must(status == (0 if how == signal.SIGTERM else -how), f'{self.home.name}: router {self.number} ends with status {status}')
         if how == signal.SIGTERM:
             left = ip('-n', self.space, '-6', 'route', 'show', 'proto', PROTOCOL) + ip('-n', self.space, '-o', '-6', 'addr', 'show', 'scope', 'global')
@@ -471,7 +472,7 @@ class Home:
         for router in routers[1:]:
             router.end(signal.SIGTERM)
         routers[0].tell('quit')
-        status = routers[0].daemon.wait(timeout=20)
+        status = routers[0].daemon.wait(timeout=PATIENCE)
         must(status == 0, f'{self.name}: router 1 ends with status {status}')
         os.close(self.unread)
 

@@ -16,7 +16,7 @@ from checks.helpers import must
 
 HOMES = ('line', 3), ('ring', 3), ('star', 4)
 KILLS, CUTS = 5, 4
-FIRST_START = 120                 # seconds within which a router alone has a prefix, on a busy machine, too
+FIRST_START = 400                 # seconds within which a router alone has a prefix, on a machine however busy
 PREFIX = '2001:db8:c:300::/56'
 
 
@@ -93,7 +93,7 @@ def lines_of_life(tools, space, path, wanted):
             with open(log, encoding='utf-8') as file_read:
                 text = file_read.read()
         daemon.send_signal(signal.SIGTERM)
-        status = daemon.wait(timeout=20)
+        status = daemon.wait(timeout=on_links.PATIENCE)
     must(status == 0, f'a router with the file {path} ends with status {status}: {text[-300:]}')
     must(all(word in text for word in wanted), f'a router with the file {path} does not say {wanted}: {text[-600:]}')
     return text

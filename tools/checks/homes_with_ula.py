@@ -17,7 +17,7 @@ from checks.helpers import must
 
 HOMES = ('line', 3), ('star', 4)
 LOCAL, LENGTH = ipaddress.ip_network('fd00::/8'), 48      # RFC 4193, section 3.1
-CHANGES = 250       # seconds within which a home has another prefix, on a busy machine, too: a silent peer is lost after 42 s
+CHANGES = 500       # seconds within which a home has another prefix, on a machine however busy; a silent peer is lost after 42 s
 
 
 class Home(on_links.Home):

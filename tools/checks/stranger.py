@@ -6,8 +6,8 @@
 
 ROUTER is the link-local address of a router on the link, IDENTIFIER and ENDPOINT are its numbers.
 
-With `prefixes` it claims to be delegated 32 prefixes that never end, then 32 others, each for SECONDS. It prints what passed
-meanwhile: the bytes of IPv6 of the longest Router Advertisement, how many fragments of such packets, how many advertisements
+With `prefixes` it claims to be delegated 32 prefixes that never end, then 32 others, each for SECONDS, and for longer where no long
+advertisement passes. It prints what passed meanwhile: the bytes of IPv6 of the longest Router Advertisement, how many fragments of such packets, how many advertisements
 told a preferred prefix before a departed one, and how many departed prefixes.
 
 With `crowd` it claims that COUNT nodes are behind it, each with as many bytes of data as a node may have, for SECONDS.
@@ -26,6 +26,7 @@ NODE_ENDPOINT, NODE_STATE, PEER, VERSION, EXTERNAL, DELEGATED, UNKNOWN = 3, 5, 8
 ETHERNET, IPV6, ADVERT, FRAGMENT = 14, 0x86dd, 134, 44
 OPTIONS, PREFIX, INFO = 56, 3, 32    # where the options of an advertisement begin; the one of a prefix, and its bytes
 CROWD, PAUSE = 0x0c000000, 0.01   # the first identifier of a crowd; seconds after each of its datagrams
+SEVERAL, PATIENCE = 500, 12         # bytes of an advertisement of more prefixes than a link has; times SECONDS in which one comes
 LATER = 1000                      # a sequence number above those of the prefixes, which routers may not have forgotten
 
 
@@ -113,8 +114,8 @@ def tell_prefixes(out, to, interface, router, endpoint, seconds):
     heard = Heard()
     with listening(interface) as frames:
         for turn in (0, 1):
-            until = time.monotonic() + seconds
-            while time.monotonic() < until:
+            begun = time.monotonic()
+            while time.monotonic() < begun + seconds or heard.longest <= SEVERAL and time.monotonic() < begun + PATIENCE * seconds:
                 out.sendto(delegating(router, endpoint, turn), to)
                 heard.hear(frames, time.monotonic() + 1)
     print(heard.longest, heard.fragments, heard.disordered, heard.departed)

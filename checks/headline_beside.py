@@ -7,9 +7,9 @@ ALONE = {
 }
 """The definitions that are shown of the clauses that stand without the others of their paragraph."""
 
-BEGINNING = '''# Nine more clauses of `run`
+BEGINNING = '''# Nine more clauses of `run`, and how bytes are read
 
-For a reader who has read the first part of [HEADLINE](HEADLINE.md), which has the words and signs that are not here. `checks/headline --write` makes this page too, and `checks/headline` compares it.
+For a reader who has read [HEADLINE](HEADLINE.md), which has the words and signs that are not here. `checks/headline --write` makes this page too, and `checks/headline` compares it.
 
 ## The words
 
@@ -79,12 +79,17 @@ A Router Advertisement has only prefixes of assignments that are applied: `hn_ro
 }
 """What stands before a definition, by its place."""
 
+TLVS = '''## How bytes are read
+
+The two claims of HEADLINE rest on these definitions too. With them HEADLINE and this page have all that the claims rest on, of one world.
+'''
+
 GLOSSES = {
     'hn_audit/specs/Calm.antt: AreWaitingCurrent': 'each copy that waits for one of the set is current: it says the network state hash of its receiver',
     'hn_audit/specs/Heard.antt: ArePeersLinked': 'each peer of each of the set is an endpoint of another of the set, on one link with it',
     'hn_audit/specs/Heard.antt: AreSendsHeard':
         'what each endpoint of the set last sent was heard by each endpoint on its link that has it as a peer, or waits for that one',
-    'hn_audit/specs/Lasting.antt: GoesTimely': 'events one after another, each of them timely',
+    'hn_audit/specs/Lasting.antt: GoesTimely': 'events one after another: time passes; a router ticks until then, and less than 42 s after peers were heard; a copy is delivered until then; or a copy is dropped whose receiver is away',
     'hn_world/specs/Names.antt: router_place': 'the place of the router of a name, in the order of definition',
     'hn_audit/specs/Quiet.antt: IsQuietByRules': 'as IsQuiet of HEADLINE, as the rules find it',
     'hn_audit/specs/Settled.antt: IsSettledByRules': 'as IsSettled of HEADLINE, as the rules find it',
@@ -101,6 +106,10 @@ GLOSSES = {
 """What a definition says that the page names and does not show, if its comment does not say that to a reader of the page."""
 
 KEY = (
+    Row('`replicate n x`, `drop n xs`', 'replicate drop', '`n` times `x`; the list without its first `n` elements'),
+    Row('`get_or xs k x`', 'get_or', 'the element at place `k`, from 0, or `x` if there is none'),
+    Row('`IsUtf8 bytes`', 'IsUtf8', 'the bytes are a text in UTF-8'),
+    Row('`to_be_bytes w16 n`', 'w16 w128', 'the 2 bytes of `n`, the greatest first; with `w128` 16'),
     Row('`map string_bytes words.now`', 'string_bytes words', 'the words of the command line, as bytes'),
     Row('`out.old`, `out.new`, `words.now`', 'out words', 'what is handed to `run`: before the call, after it, and what no call changes'),
     Row('`S.left src.old`, `K.held out.new`', 'S src K out',

@@ -1,12 +1,11 @@
-"""Finds the first difference between two pages with the headline."""
+"""Finds the first difference between two forms of a page with clauses and definitions."""
 import re
 from typing import Dict, Iterator, List, Optional, Tuple
 
 PLACE = re.compile(r'`(\S+\.(?:rt|antt)): ([^`]+)`$')
-ROW = re.compile(r'\| `(\S+/specs)` \| (.*) \|$')
 FILE = re.compile(r'=== (\S+\.antt)$')
 HEAD = re.compile(r'(?:abbrev pub|unfoldable pub|abbrev|pub record|pub data|record|data|pub) ([^\s:]+)')
-NAMED = re.compile(r'\.\.\. (\S+): .* \((\S+\.antt)\)$')
+NAMED = re.compile(r'\.\.\. (\S+): .*?(?: \((\S+\.antt)\))?$')
 CLAUSE = re.compile(r'ensures (\w+) ')
 
 
@@ -21,7 +20,7 @@ def items(page: str) -> Dict[str, str]:
 def _items(lines: List[str]) -> Iterator[Tuple[str, str]]:
     section, at = 'the beginning', 0
     while at < len(lines):
-        line, place, row = lines[at], PLACE.match(lines[at]), ROW.match(lines[at])
+        line, place = lines[at], PLACE.match(lines[at])
         if line.startswith('## '):
             section = 'the section "%s"' % line[3:]
         if place and lines[at + 1:at + 2] == ['```text']:
@@ -32,9 +31,6 @@ def _items(lines: List[str]) -> Iterator[Tuple[str, str]]:
             end = lines.index('```', at + 1) if '```' in lines[at + 1:] else len(lines)
             yield from _definitions(lines[at + 1:end])
             at = end
-        elif row:
-            for part in row.group(2).split('; '):
-                yield '%s/%s.antt' % (row.group(1), part.split(' ')[0]), part
         else:
             yield section, line
         at += 1
@@ -60,7 +56,8 @@ def _named(lines: List[str]) -> Iterator[Tuple[str, str]]:
     """The sentences for definitions that are named and not shown, each by the file and the name of its definition."""
     for line in lines:
         named = NAMED.match(line)
-        yield ('%s: the sentence for %s' % (named.group(2), named.group(1)) if named else 'what is no sentence'), line
+        where = named and named.group(2) or 'the first part'
+        yield ('%s: the sentence for %s' % (where, named.group(1)) if named else 'what is no sentence'), line
 
 
 def _in_block(file: str, names: str, lines: List[str]) -> Iterator[Tuple[str, str]]:

@@ -14,7 +14,7 @@ FILE = 'hn_run/src/program.rt'
 """Where the contract is, below `crates`."""
 FUNCTION = 'run'
 HALVES = ('headline', 'settled')
-"""The clauses that the page is about: their definitions are shown, listed and counted."""
+"""The clauses that the page is about: their definitions are shown and counted."""
 BESIDE = ('replayed', 'elected', 'told', 'stays', 'turns', 'within_limits', 'authentic')
 """The clauses that are shown beside them."""
 ALONE = ('lab', 'only')
@@ -22,10 +22,8 @@ ALONE = ('lab', 'only')
 CLAUSES = HALVES + BESIDE + ALONE
 OVER_TIME = ('hn_world/specs/Replay.antt: Always', 'hn_world/specs/Replay.antt: Throughout')
 """The definitions that say of which worlds a half is said. What is said of one world does not rest on them."""
-NEAR = 2
-"""How many steps from the halves a definition is shown."""
 NEAR_BESIDE = 1
-"""How many steps from the clauses beside them."""
+"""How many steps from the clauses beside them a definition is shown. Those on which the halves rest are shown all."""
 MARK = 4
 """How many digits the mark of a definition has."""
 
@@ -51,7 +49,6 @@ class Headline:
         self.with_worlds = sources.steps(self.seeds(HALVES))
         self.first = self._first()
         self.shown = self._shown()
-        self.listed = [node for node in self.of_one_world if not node.is_type and node not in self.shown]
 
     def seeds(self, clauses: Iterable[str], without: Tuple[str, ...] = ()) -> List[Node]:
         found = self.sources.cited_by_clauses(self.file, FUNCTION, clauses)
@@ -73,10 +70,8 @@ class Headline:
     def _shown(self) -> List[Node]:
         """The definitions that are shown, each after the clause or definition that first names it."""
         beside = self.sources.steps(self.seeds(BESIDE))
-        near = {node for node, steps in self.with_worlds.items() if steps <= NEAR}
+        near = {*self.of_one_world, *self.first, *self.named_first()}
         near |= {node for node, steps in beside.items() if steps <= NEAR_BESIDE}
-        near |= {node for node in self.of_one_world if node.file in rest.WHOLE}
-        near |= {*self.first, *self.named_first()}
         near -= _chosen(rest.IN_WORDS, near, 'of those near the clauses')
         near |= _chosen(headline_beside.ALONE, set(self.sources.steps(self.seeds(ALONE))), 'of ' + ', '.join(ALONE))
         order: Dict[Node, None] = {}
@@ -119,7 +114,12 @@ class Headline:
     @property
     def behind(self) -> List[Node]:
         """The definitions that are shown behind the first part: the halves rest on them."""
-        return [node for node in self.shown if node in self.with_worlds and node not in self.first]
+        return [node for node in self.shown if node in self.with_worlds and node not in self.first and not _is_of_tlvs(node)]
+
+    @property
+    def tlvs(self) -> List[Node]:
+        """The definitions on which the halves rest and that say how bytes are read. The page of the other clauses shows them."""
+        return [node for node in self.shown if node in self.with_worlds and _is_of_tlvs(node)]
 
     @property
     def beside(self) -> List[Node]:
@@ -127,21 +127,21 @@ class Headline:
         return [node for node in self.shown if node not in self.with_worlds]
 
     def named_behind(self) -> Dict[Node, List[Node]]:
-        """What the definitions behind the first part name and no page shows: each with those that it is the first to name."""
-        return self._named_by(self.behind, self._not_shown(self.behind))
+        """What the definitions behind the first part name and the page does not show: each with those that it first names."""
+        return self._named_by(self.behind, self._not_shown(self.behind, (), self.first + self.behind))
 
     def named_beside(self) -> Tuple[List[Node], Dict[Node, List[Node]]]:
         """The same of the other clauses, and of the definitions beside."""
         cited = self.seeds(BESIDE + ALONE)
-        left = self._not_shown(self.beside, cited)
+        left = self._not_shown(self.beside, cited, self.shown)
         for node in itertools.chain(*self.named_behind().values()):
             left.pop(node, None)
         return taken(left, cited), self._named_by(self.beside, left)
 
-    def _not_shown(self, nodes: List[Node], cited: Iterable[Node] = ()) -> Dict[Node, None]:
+    def _not_shown(self, nodes: List[Node], cited: Iterable[Node], shown: List[Node]) -> Dict[Node, None]:
         """The definitions that some definitions name, and these besides, that are not shown."""
         found = set(cited).union(*map(self.sources.cites, nodes))
-        return dict.fromkeys(sorted(node for node in found if not node.is_type and node not in self.shown))
+        return dict.fromkeys(sorted(node for node in found if not node.is_type and node not in shown))
 
     def _named_by(self, nodes: List[Node], left: Dict[Node, None]) -> Dict[Node, List[Node]]:
         return {node: taken(left, self.sources.cites(node)) for node in nodes}
@@ -181,6 +181,10 @@ class Headline:
         for cited in spec.cited(found):
             if self.sources.of_spec(node.file, cited) is None:
                 yield cited[0]
+
+
+def _is_of_tlvs(node: Node) -> bool:
+    return node.file.startswith(rest.TLVS)
 
 
 def taken(left: Dict[Node, None], named: List[Node]) -> List[Node]:

@@ -6,7 +6,7 @@ from typing import Dict, Iterable, List, Tuple
 import headline_beside as beside
 import headline_rest as rest
 import headline_text as text
-from headline_found import ALONE, BESIDE, FUNCTION, HALVES, Headline, NoSuchSign, mark, taken
+from headline_found import ALONE, BESIDE, FUNCTION, HALVES, Headline, NoSuchSign, taken
 from sources.closure import Node, NotFound, Sources
 
 DATA = os.path.join('transcripts', 'data')
@@ -30,7 +30,6 @@ def _headline(found: Headline) -> List[str]:
     lines += ['## The definitions', '', text.DEFINITIONS, ''] + _first_part(found) + [text.AFTER]
     lines += [rest.BEGINNING] + further + [rest.TYPES_SAY] + _types(found)
     lines += [rest.DEFINITIONS] + _definitions(found, found.behind, found.named_behind(), rest.SENTENCES, rest.GLOSSES)
-    lines += ['### Those that are not shown', '', rest.OTHERS, ''] + _others(found)
     return lines + ['## The counts', '', rest.COUNTS, ''] + _counts(found)
 
 
@@ -38,7 +37,8 @@ def _beside(found: Headline) -> List[str]:
     """The page with the other clauses."""
     cited, named = found.named_beside()
     lines = [beside.BEGINNING, beside.CLAUSES, ''] + _clauses(found, cited) + [beside.SIGNS] + keys(found)[2]
-    return lines + [beside.DEFINITIONS] + _definitions(found, found.beside, named, beside.SENTENCES, beside.GLOSSES)
+    lines += [beside.DEFINITIONS] + _definitions(found, found.beside, named, beside.SENTENCES, beside.GLOSSES)
+    return lines + [beside.TLVS] + _definitions(found, found.tlvs, dict.fromkeys(found.tlvs, []), {}, {})
 
 
 def check_choices(found: Headline) -> None:
@@ -55,16 +55,16 @@ def check_choices(found: Headline) -> None:
     for sentences, nodes, what in choices:
         for place in sorted(set(sentences) - {node.place for node in nodes}):
             raise NotFound('%s, which a text of checks/ names, %s' % (place, what))
-    for node in found.named_first():
-        if node not in found.shown:
-            raise NotFound('%s, which the first part names, of those shown behind it' % node.place)
+    for node in found.of_one_world:
+        if not node.is_type and node not in found.shown:
+            raise NotFound('%s, on which the halves rest, of those shown' % node.place)
 
 
 def keys(found: Headline) -> Tuple[List[str], List[str], List[str]]:
     """The keys of the first part, of the definitions behind it, and of the other page. Each sign has a row in its own key or in
     one before it."""
     return (_key(found, HALVES, found.first, (), text.KEY), _key(found, (), found.behind, text.KEY, rest.KEY),
-            _key(found, BESIDE + ALONE, found.beside, text.KEY + rest.KEY, beside.KEY))
+            _key(found, BESIDE + ALONE, found.beside + found.tlvs, text.KEY + rest.KEY, beside.KEY))
 
 
 def _key(found: Headline, clauses: Iterable[str], definitions: Iterable[Node], before: Tuple[text.Row, ...],
@@ -184,17 +184,6 @@ def _types(found: Headline) -> List[str]:
                 raise NotFound('%s, which a text of checks/ names, of the types' % node.place)
             lines += found.sources.entity(node).code + ['']
     return lines[:-1] + ['```', '']
-
-
-def _others(found: Headline) -> List[str]:
-    """A row for each crate: of each file its lines that are listed, and their mark."""
-    rows: Dict[str, List[str]] = {}
-    for file, nodes in groupby(sorted(found.listed), lambda node: node.file):
-        lines = [line for node in nodes for line in found.sources.entity(node).code]
-        folder, name = os.path.split(file)
-        rows.setdefault(folder, []).append('%s %d %s' % (name[:-len('.antt')], len(lines), mark(lines)))
-    table = ['| `%s` | %s |' % (folder, '; '.join(files)) for folder, files in rows.items()]
-    return ['| Folder | Files |', '|---|---|'] + table + ['']
 
 
 def _counts(found: Headline) -> List[str]:

@@ -279,14 +279,23 @@ class OfThisRepository(unittest.TestCase):
         self.change_definition(node, ' ≡ ', ' ≢ ')
         self.assertEqual(self.differs(), '%s changed' % node.place)
 
-    def test_a_change_of_a_listed_definition_is_seen(self) -> None:
-        """One sign of a definition of a file that is listed, which has as many lines as before: the file is named."""
-        node = self.first_with(self.headline.listed, ' ≡ ')
+    def test_a_change_that_keeps_the_lines_is_listed(self) -> None:
+        """One sign of a definition that no page shows, which has as many lines as before: its mark tells it."""
         before = list(others(self.sources))
+        node = self.first_with([Node(*line.rsplit(' ', 2)[0].split(': ')) for line in before], ' ≡ ')
         self.change_definition(node, ' ≡ ', ' ≢ ')
-        self.assertEqual(self.differs(), '%s changed' % node.file)
+        self.assertTrue(self.differs().startswith('the section "The counts" changed: | '))
         after = list(others(Sources(self.root)))
         self.assertEqual([now.split(' ')[:2] for was, now in zip(before, after) if was != now], [node.place.split(' ')])
+
+    def test_all_that_the_halves_rest_on_is_shown(self) -> None:
+        """Each definition is on one of the pages, once; one that is left out is refused."""
+        for node in (node for node in self.headline.of_one_world if not node.is_type):
+            head = r'(?m)^(?:abbrev pub|unfoldable pub|pub record|pub data) %s ' % re.escape(node.name)
+            self.assertRegex(self.page, head, node.place)
+        with mock.patch.dict(headline_rest.IN_WORDS, {'hn_base/specs/Byte.antt': 'IsByte'}):
+            with self.assertRaisesRegex(NotFound, 'hn_base/specs/Byte.antt: IsByte, on which the halves rest'):
+                page(self.sources)
 
     def test_a_change_of_what_a_transcript_is_is_named(self) -> None:
         """Of the clause that stands alone, the definition of what cannot be missing."""
@@ -294,7 +303,7 @@ class OfThisRepository(unittest.TestCase):
         self.assertEqual(self.differs(), 'hn_base/specs/Exists.antt: Some! changed')
 
     def test_a_change_of_a_far_definition_is_seen(self) -> None:
-        """One sign of a definition that is neither shown nor listed: the mark of a count tells it."""
+        """One sign of a definition that is not shown: the mark of a count tells it."""
         self.change('hn_lab/specs/Lab.antt', 'status_of WireFailed = 5', 'status_of WireFailed = 6')
         self.assertTrue(self.differs().startswith('the section "The counts" changed: | these eleven clauses | '))
 
@@ -330,9 +339,9 @@ class OfThisRepository(unittest.TestCase):
         cited, named = self.headline.named_beside()
         left = [*cited, *(node for nodes in (self.headline.named_behind(), named) for part in nodes.values() for node in part)]
         self.assertEqual(sorted((file, name) for name, file in sentences), sorted(left))
-        before = self.page.split('... remaining: ', 1)[0]
-        self.assertIn(' remaining ', before.split('pub record SeesAnnounced ', 1)[1])
-        self.assertNotIn(' remaining ', before.split('pub record SeesAnnounced ', 1)[0].split('```text')[-1])
+        before = self.page.split('... Spells: ', 1)[0].split('abbrev pub SaysItem ', 1)
+        self.assertIn(' Spells ', before[1])
+        self.assertNotIn(' Spells ', before[0])
 
     def test_the_first_part_puts_in_words_what_it_names(self) -> None:
         """Each definition that the first part names and does not show has one line there, and is shown behind it."""
@@ -344,15 +353,15 @@ class OfThisRepository(unittest.TestCase):
 
     def test_a_definition_without_a_sentence_is_refused(self) -> None:
         """One that is named and not shown, which has no comment and no sentence of the page."""
-        comment = '-- the node data of the leaf in this place'
-        self.change('hn_hash/specs/Agreement.antt', '\n%s\nabbrev pub body_at' % comment, '\nabbrev pub body_at')
-        with self.assertRaisesRegex(NotFound, 'a comment of hn_hash/specs/Agreement.antt: body_at, or a sentence'):
+        comment = '-- a prefix that is told is inside a used delegated prefix, for which each router on the link holds it'
+        self.change('hn_told/specs/Told.antt', '\n%s\npub record IsToldHeld' % comment, '\npub record IsToldHeld')
+        with self.assertRaisesRegex(NotFound, 'a comment of hn_told/specs/Told.antt: IsToldHeld, or a sentence'):
             page(Sources(self.root))
 
     def test_a_changed_sentence_is_named(self) -> None:
         """A comment of a definition that is named and not shown: its first line is its sentence."""
-        self.change('hn_hash/specs/Agreement.antt', '-- the node data of the leaf in this', '-- the data of the leaf in this')
-        self.assertEqual(self.differs(), 'hn_hash/specs/Agreement.antt: the sentence for body_at changed')
+        self.change('hn_told/specs/Told.antt', '-- a prefix that is told is inside', '-- one that is told is inside')
+        self.assertEqual(self.differs(), 'hn_told/specs/Told.antt: the sentence for IsToldHeld changed')
 
     def test_words_and_signs_come_first(self) -> None:
         """The order of the page: what the definitions use stands before them, and the first part before all else."""
@@ -409,7 +418,8 @@ class OfThisRepository(unittest.TestCase):
             grown = 0 if node.name not in self.names_of_row(what) else 1
             definitions, lines, files = self.headline.count(before[what])[:3]
             self.assertEqual(after.count(nodes)[:3], (definitions + 2 * grown, lines + 5 * grown, files), what)
-        self.assertEqual(self.names(), {'%s: IsAnew' % node.file, '%s: IsBelow' % node.file})
+        appeared = self.names() - {'the first part: the sentence for IsAnew'}
+        self.assertEqual(appeared, {'%s: IsAnew' % node.file, '%s: IsBelow' % node.file})
 
     def names_of_row(self, what: str) -> Set[str]:
         """The definitions that a row of the counts is about, as far as the test has to know."""
@@ -418,16 +428,12 @@ class OfThisRepository(unittest.TestCase):
         return {node.name for node in self.sources.cited_by_clauses(self.headline.file, 'run', clauses)}
 
     def test_what_goes_and_appears_is_named(self) -> None:
-        """A page that lacks a file, or a definition, and one that has it."""
-        files = [node.file for node in sorted(self.headline.listed)]
-        file = next(file for file in files if items(self.page)[file].strip() + '; ' in self.page)
+        """A page that lacks a definition, and one that has it."""
         shown = self.headline.behind[0]
-        text = '\n'.join(self.sources.entity(shown).shown) + '\n\n'
-        for name, lacking in ((file, items(self.page)[file].strip() + '; '), (shown.place, text)):
-            without = self.page.replace(lacking, '', 1)
-            self.assertNotEqual(without, self.page)
-            self.assertEqual(difference(without, self.page), '%s appeared' % name)
-            self.assertEqual(difference(self.page, without), '%s went' % name)
+        without = self.page.replace('\n'.join(self.sources.entity(shown).shown) + '\n\n', '', 1)
+        self.assertNotEqual(without, self.page)
+        self.assertEqual(difference(without, self.page), '%s appeared' % shown.place)
+        self.assertEqual(difference(self.page, without), '%s went' % shown.place)
 
     def test_a_sign_that_the_key_lacks_is_refused(self) -> None:
         """The fault names the definition and the sign."""
@@ -458,10 +464,11 @@ class OfThisRepository(unittest.TestCase):
         self.assertEqual(self.run_program('--write').returncode, 0)
         self.assertEqual(self.run_program().returncode, 0)
         self.assert_numbers_of_the_readme()
-        node = self.first_with(self.headline.listed, ' ≡ ')
-        self.change_definition(node, ' ≡ ', ' ≢ ')
-        ran = self.run_program()
-        self.assertEqual((ran.returncode, ran.stdout), (1, 'docs/HEADLINE.md: %s changed\n' % node.file))
+        for nodes, name in ((self.headline.tlvs, 'CLAUSES.md'), (self.headline.behind, 'HEADLINE.md')):
+            node = self.first_with(nodes, ' ≡ ')
+            self.change_definition(node, ' ≡ ', ' ≢ ')
+            ran = self.run_program()
+            self.assertEqual((ran.returncode, ran.stdout), (1, 'docs/%s: %s changed\n' % (name, node.place)))
         self.assertEqual(self.run_program('--read').returncode, 2)
 
 

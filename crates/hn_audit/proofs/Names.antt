@@ -15,7 +15,6 @@ pub use Rattle.hn_audit.specs.First.{FindsOne, IsFirstFound, IsFoundOf, OrElse}
 pub use Rattle.hn_audit.specs.FirstWitness.{AreSaid, FindsAct, FindsAlike, FindsHeld, FindsId, FindsKnown, FindsNear, FindsOfPeers, FindsOfRouter, FindsOnLinks, FindsReach, FindsNotAtRest}
 pub use Rattle.hn_audit.specs.FirstWitness.{FindsStranger, FindsUnasked, FindsUnseen, FindsUntrue, FindsUsed, IsFirstUnquiet, IsFirstUnsettled, IsSeenPair, IsTrueOf, act_of, unheld_of}
 pub use Rattle.hn_audit.specs.Heard.{AreDelivered, AreHeardSince, ArePeersLinked, AreSendsHeard, AreSendsHeardSince, GoesInTurns, GoesLossless, HasTicked, IsCalmSince, IsLosslessEvent, IsSteady, IsSteadyEvent}
-pub use Rattle.hn_audit.specs.Lasting.{IsLastingUntil}
 pub use Rattle.hn_audit.specs.Laws.{AnewHasARun, RestHasARun, WitnessNamesOneNotAtRest}
 pub use Rattle.hn_audit.specs.Quiet.{IsQuietByRules, IsRouterAtRest}
 pub use Rattle.hn_audit.specs.Reached.{AreOnOneLink, IsOfOne, IsOnLink, IsReached, IsRunning, runs_as}
@@ -61,6 +60,7 @@ pub use Rattle.hn_own.specs.declared.own_prefixes.OwnPrefix.{OwnPrefix}
 pub use Rattle.hn_router.specs.Act.{Happened, Tick}
 pub use Rattle.hn_router.specs.Laws.{MomentIsNow}
 pub use Rattle.hn_rules.specs.Assigning.{AreAsked, IsRunAssigned, IsWishAt}
+pub use Rattle.hn_rules.specs.Lasting.{IsLastingUntil}
 pub use Rattle.hn_rules.specs.Laws.{AssignedIsPublished, EntriesAreAsKnown, HashIsOfLeaves, OwnPeersAreOfEndpoints, PrivatePostIsAlone, ViewIsNetwork}
 pub use Rattle.hn_rules.specs.Nodes.{entry_of, held_entry, own_entry, view_of}
 pub use Rattle.hn_rules.specs.Passing.{IsStatusUpdate, after_passing}

@@ -18,4 +18,5 @@ pub use laws::{
     settled_and_quiet_is_sound, settled_are_always_sound, settled_elect_alike,
     settled_have_one_hash, settled_see_each_other, witness_is_unique, witness_refutes,
 };
+pub use spots::are_on_one_link;
 pub use witness::{Unquiet, Unsettled};

@@ -117,8 +117,8 @@ fn first_stranger(world: &World, reach: &[NodeId], spots: &[Spot<'_>]) -> Option
     None
 }
 
-/// Whether endpoints of two routers are attached to one link.
-fn are_on_one_link(s: &Member, e: EpId, u: &Member, f: EpId) -> bool
+/// Whether endpoints of two routers are attached to one link. Never allocates.
+pub fn are_on_one_link(s: &Member, e: EpId, u: &Member, f: EpId) -> bool
     ensures { IsTrue result ↔ AreOnOneLink s.now e u.now f }
 {
     match (s.link_of(e), u.link_of(f)) {

@@ -15,6 +15,7 @@ ghost use Rattle.hn_own.specs.HeldPairs.{AreHeldPairs};
 ghost use Rattle.hn_link.specs.CommonLink.{IsCommonLink};
 ghost use Rattle.hn_rules.specs.Done.{nothing};
 ghost use Rattle.hn_rules.specs.Due.{IsNextDue};
+ghost use Rattle.hn_rules.specs.Lasting.{LastsBefore};
 ghost use Rattle.hn_rules.specs.Router.{IsRouter};
 ghost use Rattle.hn_rules.specs.Idle.{IsIdleTick};
 ghost use Rattle.hn_rules.specs.Router.{IsRouter};
@@ -389,6 +390,19 @@ impl Router {
         ensures kept { self.now.moment < result → IsIdleTick self.now.moment self.now × IsNextDue self.now result }
     {
         self.state.due
+    }
+
+    /// The first moment at which something ends that the router keeps or sees: one of its own delegated prefixes, a
+    /// lifetime that it sees announced, or that node data are young (2^32 ms without 2^16, which are 49 days). Before it
+    /// nothing of this ends.
+    ///
+    /// # Errors
+    ///
+    /// Out of memory.
+    pub fn lasts_before(&self, alloc: Global) -> Result<Moment, NoMemory>
+        ensures { IfOk result (LastsBefore self.now) }
+    {
+        self.state.lasts_before(alloc)
     }
 
     /// The identifier. An event may change it: where another node claims it a second time, the router takes a new one and

@@ -12,6 +12,7 @@ mod FreeIds
 mod Genuines
 mod Growing
 mod Hashed
+mod LastsBefore
 pub mod MovedPorts
 mod LawsFromBelow
 mod LawAssigned

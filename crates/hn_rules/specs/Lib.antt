@@ -20,6 +20,7 @@ pub mod Tick
 pub mod Ticks
 pub mod Updates
 pub mod Due
+pub mod Lasting
 pub mod Undue
 pub mod Idle
 pub mod KnownReach

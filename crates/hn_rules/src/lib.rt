@@ -10,6 +10,7 @@ mod done;
 mod due;
 mod events;
 mod idle;
+mod lasting;
 mod laws;
 mod nodes;
 mod present;

@@ -1,6 +1,7 @@
 -- What `udp` leaves where the wire failed.
-use Rattle.hn_base.proofs.Names.{◌≡◌, ◌∙◌, ◌⊎◌, ◌^◌, ◌-◌, inl, inr, ℕ, List, Option, Some, refl, sym, ap, subst, arith, IsWhole}
-use Rattle.hn_run.proofs.Names.{NoMemory, IsLabRun, refused_line, IsNumberText, Datagram, Parts, IsFormOf, Udp}
+use Rattle.hn_base.proofs.Names.{◌≡◌, ◌∙◌, ◌-◌, inl, inr, ℕ, List, Option, Some, refl, sym, subst, arith, IsWhole}
+use Rattle.hn_run.proofs.Names.{IsLabRun, IsNumberText, Parts, IsFormOf, Udp}
+use Rattle.hn_io.specs.declared.fault.IoFault.TheVariants.{NoMemory}
 use Rattle.hn_lab.specs.declared.end.End.{End}
 use Rattle.hn_lab.specs.declared.end.End.TheVariants as end
 use Rattle.hn_lab.specs.Breaking.{WireFailsAtACopy}
@@ -9,6 +10,8 @@ use Rattle.hn_lab.specs.Play.{begun, IsPlay}
 use Rattle.hn_lab.specs.Stage.{Ports}
 use Rattle.hn_script.specs.Script.{IsScript}
 use Rattle.hn_script.specs.declared.script.Script.{Script}
+use Rattle.hn_streams.specs.Refusal.{refused_line}
+use Rattle.hn_wire.specs.declared.datagram.Datagram.{Datagram}
 use Rattle.hn_run.specs.Outcome.{LeavesOnWire}
 
 -- only a failed wire has status 5

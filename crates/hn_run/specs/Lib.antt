@@ -1,7 +1,1 @@
-pub mod HexText
-pub mod Decode
-pub mod Capture
-pub mod Watch
-pub mod Form
 pub mod Outcome
-pub mod Node

@@ -1,8 +1,8 @@
--- What each form of the program comes to.
-use Rattle.std.specs.Prelude.{◌≡◌, ◌≢◌, ◌⊎◌, ℕ, List, Option, Some}
+-- What `soak` comes to, and what `udp` leaves on its wire.
+use Rattle.std.specs.Prelude.{◌≡◌, ◌⊎◌, ℕ, List, Option, Some}
 use Rattle.std.specs.Io.KnownBytes.{Appends}
 use Rattle.hn_base.specs.Input.{IsWhole}
-use Rattle.hn_io.specs.declared.fault.IoFault.TheVariants.{Failed, NoMemory}
+use Rattle.hn_io.specs.declared.fault.IoFault.TheVariants.{NoMemory}
 use Rattle.hn_lab.specs.Breaking.{CopyFails}
 use Rattle.hn_lab.specs.Lab.{IsScriptPlay, IsUnread, StatusOfScript}
 use Rattle.hn_lab.specs.Play.{begun, IsCut}
@@ -13,34 +13,6 @@ use Rattle.hn_script.specs.Soak.{soak_text}
 use Rattle.hn_script.specs.declared.script.Script.{Script}
 use Rattle.hn_wire.specs.declared.datagram.Datagram.{Datagram}
 use Rattle.hn_world.specs.declared.parts.Parts.{Parts}
-use Rattle.hn_run.specs.Decode.{SpellsTlvs, WritesDecode, CutsDecode}
-use Rattle.hn_run.specs.Watch.{IsCapture, WritesWatch, CutsWatch, StarvesWatch}
-
--- what a sink holds after `decode`, by the status: the whole text; a proper front of it, where the sink failed; a front,
--- where memory ended
-abbrev pub DecodeHolds : List ℕ → ℕ → Option (List ℕ) → Option (List ℕ) → Type 0
-DecodeHolds bytes status before after =
-    (((status ≡ 0) ⊎ (status ≡ 2)) × WritesDecode bytes status before after)
-    ⊎ (((status ≡ 4) × CutsDecode bytes Failed before after) ⊎ ((status ≡ 6) × CutsDecode bytes NoMemory before after))
-
--- what `decode` comes to, by the bytes that its source has left, where it tells them
-pub record IsDecodeRun (left : Option (List ℕ)) (status : ℕ) (before after : Option (List ℕ)) : Type 0 where
-  pub bytes : List ℕ
-  pub are_whole : IsWhole left bytes
-  pub holds : DecodeHolds bytes status before after
-  pub only : SpellsTlvs bytes → status ≢ 2
-
--- the same of `watch`
-abbrev pub WatchHolds : List ℕ → ℕ → Option (List ℕ) → Option (List ℕ) → Type 0
-WatchHolds bytes status before after =
-    (((status ≡ 0) ⊎ (status ≡ 2)) × WritesWatch bytes status before after)
-    ⊎ (((status ≡ 4) × CutsWatch bytes Failed before after) ⊎ ((status ≡ 6) × StarvesWatch bytes before after))
-
-pub record IsWatchRun (left : Option (List ℕ)) (status : ℕ) (before after : Option (List ℕ)) : Type 0 where
-  pub bytes : List ℕ
-  pub are_whole : IsWhole left bytes
-  pub holds : WatchHolds bytes status before after
-  pub only : (datagrams : List (List ℕ)) → IsCapture bytes datagrams → status ≢ 2
 
 -- What `udp` leaves where the wire failed, over a wire that tells what waits: the script of its source is played up to a copy, for
 -- which the wire fails. What waited then is left, or that with the copy behind it, and the world is that before the copy.

@@ -10,6 +10,7 @@ ghost use Rattle.hn_plain.specs.Plain.{SettledAreSound};
 ghost use Rattle.hn_told.specs.Told.{HostsAreToldApart};
 
 use hn_audit::{calm_homes_always_stay, quiet_homes_always_stay, settled_elect_alike};
+use hn_forms::NodeEnd;
 use hn_lab::Played;
 use hn_node::Served;
 use hn_plain::plainly_sound;
@@ -38,6 +39,19 @@ impl Outcome {
             status,
             world: None,
             served: None,
+        }
+    }
+
+    /// What `node` came to. Never allocates.
+    pub(crate) fn of_node(end: NodeEnd) -> Outcome
+        ensures status { result.status ≡ end.status }
+        ensures no_world { result.world ≡ None }
+        ensures served { result.served ≡ end.served }
+    {
+        Outcome {
+            status: end.status,
+            world: None,
+            served: end.served,
         }
     }
 

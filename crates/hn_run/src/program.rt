@@ -1,4 +1,4 @@
-ghost use Rattle.std.specs.Prelude.{◌≡◌, ◌≢◌, ◌↔◌, ◌+◌, ◌^◌, ◌≤◌, ◌⊎◌, ℕ, List, [], ◌∷◌, All, None, Some, map, length, Contains, IfSome, string_bytes};
+ghost use Rattle.std.specs.Prelude.{◌≡◌, ◌≢◌, ◌↔◌, ◌+◌, ◌^◌, ◌≤◌, ◌⊎◌, ℕ, List, All, None, Some, map, length, Contains, IfSome, string_bytes};
 ghost use Rattle.std.specs.Io.KnownBytes.{Consumes};
 ghost use Rattle.hn_io.specs.Faults.{IsCaused};
 ghost use Rattle.hn_world.specs.Replay.{IsReplayed, Always, Throughout};
@@ -16,61 +16,21 @@ ghost use Rattle.hn_node.specs.Turns.{IsBounded};
 ghost use Rattle.hn_lab.specs.Lab.{IsLabRun};
 ghost use Rattle.hn_lab.specs.Stage.{Mail, Ports};
 ghost use Rattle.hn_lab.specs.Transcripts.{IsLabTranscript, TranscriptIsUnique};
-ghost use Rattle.hn_run.specs.Form.{IsFormOf, AsksNothing, LeavesUnused, statuses_of};
-ghost use Rattle.hn_run.specs.Outcome.{IsDecodeRun, IsWatchRun, IsSoakRun, LeavesOnWire};
-ghost use Rattle.hn_run.specs.Node.{IsNodeRun, plain_call};
-ghost use Rattle.hn_run.specs.declared.words.Form.{Form};
-ghost use Rattle.hn_run.specs.declared.words.NodeCall.{NodeCall};
+ghost use Rattle.hn_forms.specs.Form.{IsFormOf, AsksNothing, LeavesUnused, statuses_of};
+ghost use Rattle.hn_forms.specs.Outcome.{IsDecodeRun, IsWatchRun};
+ghost use Rattle.hn_run.specs.Outcome.{IsSoakRun, LeavesOnWire};
+ghost use Rattle.hn_forms.specs.Node.{IsNodeRun, plain_call};
+ghost use Rattle.hn_forms.specs.declared.words.Form.{Form};
+ghost use Rattle.hn_forms.specs.declared.words.NodeCall.{NodeCall};
 
-use crate::decode::{each_source_decodes, run_decode};
-use crate::node::node;
 use crate::outcome::Outcome;
 use crate::soak::soak;
 use crate::status::{BAD_USAGE, DONE, NO_MEMORY, REFUSED, SINK_FAILED, SOURCE_FAILED, WIRE_FAILED};
-use crate::watch::run_watch;
-use crate::words::Form;
-use hn_io::{IoFault, Sink, Source};
+use hn_forms::{Form, decode, node, watch};
+use hn_io::{Sink, Source};
 use hn_lab::{lab, transcript_exists, wire_fails_at_a_copy};
-use hn_streams::read_all;
 use hn_wire::{Clock, Wire};
 use std::alloc::Global;
-
-/// Reads hexadecimal text, and writes the contents of the datagram that it spells. Answers the status.
-fn decode<S: Source, K: Sink>(alloc: Global, src: &mut S, out: &mut K) -> u8
-    ensures decode { result ≢ SOURCE_FAILED → IsDecodeRun (S.left src.old) result (K.held out.old) (K.held out.new) }
-    ensures statuses { Contains (DONE ∷ REFUSED ∷ SOURCE_FAILED ∷ SINK_FAILED ∷ NO_MEMORY ∷ []) result }
-    ensures source_caused { IsCaused (result ≡ SOURCE_FAILED) (S.faults src.old) (S.faults src.new)
-        (S.never_fails src.old) (S.never_fails src.new) }
-    ensures sink_caused { IsCaused (result ≡ SINK_FAILED) (K.faults out.old) (K.faults out.new)
-        (K.never_fails out.old) (K.never_fails out.new) }
-    ensures unwritten { result ≡ SOURCE_FAILED → out.new ≡ out.old }
-    ensures bounded { (read : List ℕ) × (length read ≤ 2 ^ 24 + 1) × Consumes (S.left src.old) (S.left src.new) read }
-{
-    each_source_decodes();
-    match read_all(alloc, src) {
-        Ok(bytes) => run_decode(alloc, bytes, out),
-        Err(IoFault::Failed) => SOURCE_FAILED,
-        Err(IoFault::NoMemory) => NO_MEMORY,
-    }
-}
-
-/// Reads a capture, and writes what was claimed by its datagrams. Answers the status.
-fn watch<S: Source, K: Sink>(alloc: Global, src: &mut S, out: &mut K) -> u8
-    ensures watch { result ≢ SOURCE_FAILED → IsWatchRun (S.left src.old) result (K.held out.old) (K.held out.new) }
-    ensures statuses { Contains (DONE ∷ REFUSED ∷ SOURCE_FAILED ∷ SINK_FAILED ∷ NO_MEMORY ∷ []) result }
-    ensures source_caused { IsCaused (result ≡ SOURCE_FAILED) (S.faults src.old) (S.faults src.new)
-        (S.never_fails src.old) (S.never_fails src.new) }
-    ensures sink_caused { IsCaused (result ≡ SINK_FAILED) (K.faults out.old) (K.faults out.new)
-        (K.never_fails out.old) (K.never_fails out.new) }
-    ensures unwritten { result ≡ SOURCE_FAILED → out.new ≡ out.old }
-    ensures bounded { (read : List ℕ) × (length read ≤ 2 ^ 24 + 1) × Consumes (S.left src.old) (S.left src.new) read }
-{
-    match read_all(alloc, src) {
-        Ok(bytes) => run_watch(alloc, &bytes, out),
-        Err(IoFault::Failed) => SOURCE_FAILED,
-        Err(IoFault::NoMemory) => NO_MEMORY,
-    }
-}
 
 /// Runs the program: `words` are those of the command line, the program's name first. The forms are `lab`, which reads
 /// a script, plays it and writes its transcript; `udp`, which does the same and delivers each copy over the wire, from a
@@ -163,7 +123,7 @@ pub fn run<S: Source, K: Sink, W: Wire, C: Clock>(
     match Form::of(words) {
         Some(Form::Lab) => Outcome::of_play(lab(alloc, src, out, wire, None)),
         Some(Form::Udp { base }) => Outcome::of_play(lab(alloc, src, out, wire, Some(base))),
-        Some(Form::Node(call)) => node(alloc, &call, src, out, wire, clock),
+        Some(Form::Node(call)) => Outcome::of_node(node(alloc, &call, src, out, wire, clock)),
         Some(Form::Decode) => Outcome::of(decode(alloc, src, out)),
         Some(Form::Watch) => Outcome::of(watch(alloc, src, out)),
         Some(Form::Soak { n, seed }) => Outcome::of_play(soak(alloc, n, seed, out, wire)),

@@ -2,8 +2,8 @@ use Rattle.hn_base.proofs.Names.{◌≡◌, map, refl, arith}
 use Rattle.hn_run.proofs.Names.{Lab, Udp, Node, Decode, Watch, Soak, IsNodeRun, PlainCall}
 use Rattle.std.specs.String.{string_bytes}
 use Rattle.hn_run.proofs.LeftOnWire.{leaves_of_base}
-use Rattle.hn_run.proofs.Nodes.{as_called, call_in_range}
-use Rattle.hn_run.proofs.Forms.{ends_alike, without_wire}
+use Rattle.hn_run.proofs.OneCall.{as_called, call_in_range}
+use Rattle.hn_run.proofs.StatusesOfWords.{ends_alike, without_wire}
 use Rattle.hn_run.proofs.program.run.Goals as goal
 
 pub returns-in-Some-Lab-clause-lab : goal.returns-in-Some-Lab-clause-lab
@@ -72,13 +72,14 @@ returns-in-Some-Node-clause-node g c call asked good =
     let P : PlainCall → Type 0 = λ x. IsNodeRun x (g.S.Source.left c.args.src.now) c.node.result.status c.node.result.served
     (record { waiting = g.W.Wire.waiting c.args.wire.now; readings = g.C.Clock.readings c.args.clock.now })
     (record { waiting = g.W.Wire.waiting c.node.new.wire; readings = g.C.Clock.readings c.node.new.clock }) (g.K.Sink.held c.args.out.now) (g.K.Sink.held c.node.new.out) in
-    as_called P c.in-Some-Node.call call _ read asked (c.node.ensures.node good)
+    rw (c.of_node.ensures.status, c.of_node.ensures.served)
+    (as_called P c.in-Some-Node.call call _ read asked (c.node.ensures.node (rw c.of_node.ensures.status at good)))
 
 pub returns-in-Some-Node-clause-statuses : goal.returns-in-Some-Node-clause-statuses
 returns-in-Some-Node-clause-statuses g c form asked =
     let words = map string_bytes c.args.words.now in
     let read = rw c.in-Some-Node.field-0-is at c.in-Some-Node.ensures.found in
-    ends_alike (Node c.in-Some-Node.call) form words c.node.result.status read asked c.node.ensures.statuses
+    rw c.of_node.ensures.status (ends_alike (Node c.in-Some-Node.call) form words c.node.result.status read asked c.node.ensures.statuses)
 
 pub returns-in-None-clause-node : goal.returns-in-None-clause-node
 returns-in-None-clause-node g c call asked _ = absurd (c.in-None.ensures.none (Node call) asked)

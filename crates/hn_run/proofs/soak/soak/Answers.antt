@@ -3,7 +3,7 @@ use Rattle.hn_run.proofs.Names.{Contains, IsLabRun, Parts}
 use Rattle.hn_lab.specs.Lab.{HasDonePlay, HasRefusal, IsScriptPlay, IsUnread, StatusOfScript}
 use Rattle.hn_lab.specs.Stage.{Mail}
 use Rattle.hn_script.specs.Soak.{soak_text}
-use Rattle.hn_run.proofs.Streams.{Appends-none}
+use Rattle.std.proofs.KnownBytes.{Appends-nil}
 use Rattle.hn_run.proofs.soak.soak.Goals as goal
 
 -- a soak is a run of `lab` on the text of its script
@@ -55,13 +55,13 @@ returns-in-Err-clause-soak g c =
       refused = λ script is refused none. absurd (omega (arith, six, none));
       no_script = λ fault is none. absurd (omega (arith, six, none));
     } in
-    let run = as_lab bytes status world [] held held comes only (Appends-none held) in
+    let run = as_lab bytes status world [] held held comes only (Appends-nil held) in
     record {
       written = [];
       comes = comes;
       of_script = c.lab_is_of_transcript.ensures Mail None status world held held run (λ five. omega (arith, six, five));
       only = only;
-      appends = Appends-none held;
+      appends = Appends-nil held;
     }
 
 -- a status that is not that of a failed wire

@@ -1,0 +1,17 @@
+mod Names
+mod HexDigits
+mod Forms
+mod Streams
+mod Cut
+mod Decodes
+mod Sources
+mod Spelled
+mod Captures
+mod WatchTexts
+mod WatchSources
+mod Outcomes
+mod Setups
+mod NinthPrefix
+mod Nodes
+mod Ported
+mod NodeSources

@@ -1,5 +1,0 @@
-use Rattle.hn_base.proofs.Names.{append_assoc}
-use Rattle.hn_run.proofs.seen_text.seen_line.Goals as goal
-
-pub returns : goal.returns
-returns c = simp append_assoc (rw (← c.as_slice.ensures) c.format.ensures.ok)

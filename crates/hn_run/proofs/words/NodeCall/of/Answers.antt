@@ -1,4 +1,0 @@
-use Rattle.hn_run.proofs.words.NodeCall.of.Goals as goal
-
-pub returns-in_err-count-clause-none : goal.returns-in_err-count-clause-none
-returns-in_err-count-clause-none c = rw c.from_residual-in_err-count.ensures (λ call is. c.in_err-count.ensures.none call.count call.peers is.peers_are)

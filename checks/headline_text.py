@@ -31,7 +31,7 @@ SAMPLE = 'two_routers_share_a_prefix'
 
 BEGINNING = '''# The headline in one reading
 
-For a reader who knows HNCP and doubts the claim. Up to "The others" the page takes about half an hour, more than half of it for Sound, Settled and Quiet. `checks/headline --write` copies clauses and definitions from the sources. The prose explains them, and is not proved.
+For a reader who knows HNCP and doubts the claim. Up to "The others" the page takes about half an hour, more than half of it for Sound, Settled and Quiet. What stands behind may wait. `checks/headline --write` copies clauses and definitions from the sources. The prose explains them, and is not proved.
 
 ## What is claimed
 
@@ -39,7 +39,7 @@ The program `hncp` simulates homes. It reads a **script**: routers, links, and w
 
 All forms call one function, `run`. A named promise of `run` is a **clause**, and is proved for every script and seed. Two clauses are the headline:'''
 
-CLAIMED = '''- **`headline`**: two routers with equal network state hashes hold equal node data, or two texts that they hash collide.
+CLAIMED = '''- **`headline`**: two routers with equal network state hashes hold equal node data, or there is a **collision**: two different texts that they hash have one hash.
 - **`settled`**: a running router that is settled and quiet is sound.
 
 Both are said of the home at the end of the play, `result.world`, and of each earlier moment. If a line of the script cannot be read, or memory ends, there is no world, and they say nothing.
@@ -61,7 +61,7 @@ Both are said of the home at the end of the play, `result.world`, and of each ea
 **Not claimed:**
 
 - That a home comes to be settled and quiet, or when.
-- That hosts are told. Sound speaks of assignments, applied or not.
+- That hosts are told. Sound speaks of assignments, applied or not. (What hosts are told is the clause `told` of [CLAUSES](CLAUSES.md).)
 - Anything of real links, or of `node`, the form that is one router by the clock. `node` has no world.
 - IPv4: RFC 7788 writes an IPv4 prefix as one of 96 bits or more, and no d of more than 64 bits is used.
 - Delegated prefixes past the first 32; two endpoints of one router on one link, which no script can have; and [what the model leaves out](MODEL.md#what-is-left-out).

@@ -10,14 +10,14 @@ use Rattle.hn_assign.specs.Gathered.{IsOfOther, IsAdvertised, AreAdvertised}
 use Rattle.hn_assign.specs.declared.assigned.Advertised.{Advertised}
 use Rattle.hn_assign.specs.declared.assigned.Assigned.{Assigned}
 
-back : (x y : Entry) → AdvertisesAs x y → AdvertisesAs y x
+pub back : (x y : Entry) → AdvertisesAs x y → AdvertisesAs y x
 back x y same = record {
   id = sym same.id;
   version = (same.version.1, same.version.0);
   assigned = λ a. let one = same.assigned a in (one.1, one.0);
 }
 
-of_other : (own : ℕ) (x y : Entry) (a : Advertised) → AdvertisesAs x y → IsOfOther own x a → IsOfOther own y a
+pub of_other : (own : ℕ) (x y : Entry) (a : Advertised) → AdvertisesAs x y → IsOfOther own x a → IsOfOther own y a
 of_other own x y a same is = record {
   another = λ own_is. is.another (ap (λ (id : NodeId). id.0) (sym same.id) ∙ own_is);
   version = same.version.0 is.version;

@@ -1,14 +1,33 @@
 -- What a part of the advertised prefixes tells of all: those that start inside a prefix, and the short ones.
-use Rattle.hn_base.proofs.Names.{◌≡◌, ◌∙◌, ℕ, ◌/◌, ◌-◌, ◌^◌, ◌<◌, ◌≤◌, ◌⊎◌, inl, inr, List, Contains, Option, Some, None, nat_lt, refl, sym, subst, ⊎_elim, arith, cases_lt, HaveSame, PlainPrefix}
+use Rattle.hn_base.proofs.Names.{◌≡◌, ◌∙◌, ℕ, ◌/◌, ◌-◌, ◌^◌, ◌<◌, ◌≤◌, ◌⊎◌, inl, inr, List, [], Contains, Option, Some, None, nat_lt, refl, sym, subst, ⊎_elim, arith, cases_lt, HaveSame, PlainPrefix}
 use Rattle.hn_base.proofs.Names.{IsInside, Overlaps}
-use Rattle.hn_assign.proofs.Names.{PlainView, Advertised, Assigned, LinkEndpoints, IsCandidatePrefix, IsBestIfAny, IsValid, AreAdvertised, short_of}
+use Rattle.hn_assign.proofs.Names.{nothing_in, PlainView, Advertised, Assigned, LinkEndpoints, IsCandidatePrefix, IsBestIfAny, IsValid, AreAdvertised, short_of}
 use Rattle.std.proofs.Common.{lt-ltb}
 use Rattle.hn_base.proofs.Elements.{in_filter, from_filter}
+use Rattle.hn_base.proofs.AscendingMade.{sorted_none}
+use Rattle.std.specs.Ordering.{nat_cmp}
+use Rattle.hn_data.specs.declared.view.Entry.{Entry}
+use Rattle.hn_assign.specs.Renewed.{IsKept}
 use Rattle.hn_base.proofs.LeadingBits.{alike_in_shorter}
 
 -- the same in another order are as advertised
 pub advertised_same : (view : PlainView) (assigned : List Assigned) (a b : List Advertised) → HaveSame a b → AreAdvertised view assigned b → AreAdvertised view assigned a
 advertised_same view assigned a b same are x = let both = same x in let here = are x in (λ h. here.0 (both.0 h), λ h. both.1 (here.1 h))
+
+-- with no nodes and no assignments nothing is advertised
+nothing_advertised : (own : ℕ) → AreAdvertised (record { own = own; now = 0; nodes = [] }) [] []
+nothing_advertised own a =
+    (λ h. absurd (nothing_in a h), λ h. ⊎_elim (λ e. absurd (nothing_in e.0 e.1)) (λ c. absurd (nothing_in c.0 c.1)) h)
+
+-- so an empty index is kept of nothing
+pub nothing_kept : (own : ℕ) (nodes : List Entry) (assigned : List Assigned) (index : List Advertised) → nodes ≡ [] → assigned ≡ [] → HaveSame index []
+    → IsKept own nodes assigned index
+nothing_kept own nodes assigned index no_nodes no_assigned none =
+    subst (λ (xs : List Entry). IsKept own xs assigned index) (sym no_nodes)
+    (subst (λ (ys : List Assigned). IsKept own [] ys index) (sym no_assigned) (record {
+      ascending = sorted_none nat_cmp;
+      advertised = advertised_same (record { own = own; now = 0; nodes = [] }) [] index [] none (nothing_advertised own);
+    }))
 
 -- the part is of the list, and has at least what starts inside the prefix
 pub record IsStarting (adv : List Advertised) (outer : PlainPrefix) (part : List Advertised) : Type 0 where

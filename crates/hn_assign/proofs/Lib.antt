@@ -22,6 +22,7 @@ mod Orders
 mod PairRests
 pub mod Published
 pub mod Ranges
+pub mod Renewals
 pub mod RestRuns
 pub mod Rests
 pub mod SameAdvertised

@@ -10,6 +10,7 @@ pub mod Laws
 pub mod Lines
 pub mod Marks
 pub mod Pair
+pub mod Renewed
 pub mod Rest
 pub mod Scene
 pub mod Slot

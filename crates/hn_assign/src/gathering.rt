@@ -40,7 +40,11 @@ fn add_others(items: &mut Vec<Advertised>, own: NodeId, nodes: &[Entry]) -> Resu
 }
 
 /// Adds what a node advertises, where it is another one and has an HNCP-Version.
-fn add_other(items: &mut Vec<Advertised>, own: NodeId, node: &Entry) -> Result<(), NoMemory>
+pub(crate) fn add_other(
+    items: &mut Vec<Advertised>,
+    own: NodeId,
+    node: &Entry,
+) -> Result<(), NoMemory>
     ensures { OnOk result ((a : Advertised) → Contains items.new.items a
         ↔ (Contains items.old.items a ⊎ IsOfOther own.0 node.now a)) }
 {
@@ -69,7 +73,11 @@ fn add_node(items: &mut Vec<Advertised>, node: &Entry) -> Result<(), NoMemory>
 }
 
 /// Adds what the router itself advertises.
-fn add_own(items: &mut Vec<Advertised>, own: NodeId, assigned: &[Assigned]) -> Result<(), NoMemory>
+pub(crate) fn add_own(
+    items: &mut Vec<Advertised>,
+    own: NodeId,
+    assigned: &[Assigned],
+) -> Result<(), NoMemory>
     ensures { OnOk result ((a : Advertised) → Contains items.new.items a
         ↔ (Contains items.old.items a ⊎ ((c : Assigned) × Contains assigned.now c × IsOwn own.0 c a))) }
 {

@@ -1,4 +1,4 @@
-ghost use Rattle.std.specs.Prelude.{◌≡◌, ◌↔◌, ◌<◌, ◌≤◌, length, map, Contains, IsTrue, IfOk, IfSome, IfNone};
+ghost use Rattle.std.specs.Prelude.{◌≡◌, ◌↔◌, ◌<◌, ◌≤◌, length, map, Contains, IsTrue, IfOk, OnOk, IfSome, IfNone};
 ghost use Rattle.std.specs.List.Sorted.{IsNonDecreasingBy};
 ghost use Rattle.hn_base.specs.Ascending.{HaveSame};
 ghost use Rattle.hn_base.specs.Prefix.{IsInside};
@@ -66,6 +66,25 @@ fn order_if_many(advertised: &mut Vec<Advertised>)
     }
 }
 
+/// The same, for a list of which all but few stand in order: in time that is linear in their number.
+fn merge_by_bits(advertised: &mut Vec<Advertised>) -> Result<(), NoMemory>
+    ensures ascending { OnOk result (IsNonDecreasingBy (λ a. a.prefix.bits) advertised.new.items) }
+    ensures same { OnOk result (HaveSame advertised.new.items advertised.old.items) }
+{
+    Ok(advertised.sort_by_key(|a| a.prefix.bits())?)
+}
+
+/// The same, only if they are many.
+fn merge_if_many(advertised: &mut Vec<Advertised>) -> Result<(), NoMemory>
+    ensures ascending { OnOk result (64 < length advertised.new.items → IsNonDecreasingBy (λ a. a.prefix.bits) advertised.new.items) }
+    ensures same { OnOk result (HaveSame advertised.new.items advertised.old.items) }
+{
+    if advertised.len() > FEW {
+        return merge_by_bits(advertised);
+    }
+    Ok(())
+}
+
 /// The first ones, before the first whose bits are above an address. They are few: each is looked at.
 fn front_to(rest: &[Advertised], last: u128) -> &[Advertised]
     ensures { IsFrontUpTo rest.now last result.now }
@@ -113,6 +132,22 @@ impl Index {
         ensures { IfOk result (λ index. HaveSame index advertised.items) }
     {
         order_if_many(&mut advertised);
+        Index::of_ordered(alloc, advertised)
+    }
+
+    /// The same, where all but few of the list stand in order.
+    pub(crate) fn merged(alloc: Global, mut advertised: Vec<Advertised>) -> Result<Index, NoMemory>
+        ensures { IfOk result (λ index. HaveSame index advertised.items) }
+    {
+        merge_if_many(&mut advertised)?;
+        Index::of_ordered(alloc, advertised)
+    }
+
+    /// The same, where the list is in order, if it is long.
+    fn of_ordered(alloc: Global, advertised: Vec<Advertised>) -> Result<Index, NoMemory>
+        requires { 64 < length advertised.items → IsNonDecreasingBy (λ a. a.prefix.bits) advertised.items }
+        ensures { IfOk result (λ index. index ≡ advertised.items) }
+    {
         let short = short_of(alloc, &advertised)?;
         let taken = prefixes_of(alloc, &advertised)?;
         Ok(Index {
@@ -129,6 +164,11 @@ impl Index {
     {
         let advertised = gather(alloc, view, held)?;
         Index::over(alloc, advertised.into_vec())
+    }
+
+    /// Whether they are many, so they are in order.
+    pub(crate) fn is_ordered(&self) -> bool {
+        self.advertised.len() > FEW
     }
 
     /// The advertised prefixes. Never allocates.

@@ -2,13 +2,14 @@
 
 ghost use Rattle.std.specs.Prelude.{◌≡◌, ◌↔◌, IsTrue, IfOk, IfSome};
 ghost use Rattle.hn_data.specs.Said.{HasVersion};
-ghost use Rattle.hn_data.specs.View.{plain_view};
+ghost use Rattle.hn_data.specs.View.{plain_view, IsNetwork};
 ghost use Rattle.hn_assign.specs.Alike.{AdvertisesAs, AdvertiseAlike};
 ghost use Rattle.hn_assign.specs.Gathered.{AreAdvertised};
 
 use crate::assigned::Assigned;
 use crate::held::Held;
 use crate::index::Index;
+use crate::renewing::renewed;
 use hn_base::{NoMemory, NodeId, Shared};
 use hn_data::{AssignedPrefix, Entry, NodeData, View, version};
 use std::alloc::Global;
@@ -25,13 +26,13 @@ pub struct KeptIndex {
 }
 
 impl Model for KeptIndex {
-    ghost use Rattle.hn_assign.specs.Gathered.{AreAdvertised};
+    ghost use Rattle.hn_assign.specs.Renewed.{IsKept};
 
     ghost Value = { Unit {0} };
 
     ghost view = { λ k. tt };
 
-    ghost invariant = { λ k. AreAdvertised (record { own = k.own.0; now = 0; nodes = k.nodes.items }) k.assigned.items k.index };
+    ghost invariant = { λ k. IsKept k.own.0 k.nodes.items k.assigned.items k.index };
 }
 
 /// Whether two lists have the same assigned prefixes.
@@ -72,7 +73,7 @@ fn are_versions_alike(a: &NodeData, b: &NodeData) -> bool
 }
 
 /// Whether two nodes advertise the same. Never allocates.
-fn advertise_same(a: &Entry, b: &Entry) -> bool
+pub(crate) fn advertise_same(a: &Entry, b: &Entry) -> bool
     ensures { IsTrue result → AdvertisesAs a.now b.now }
 {
     if is_same(b.id, a.id) {
@@ -128,6 +129,26 @@ fn are_alike(
 }
 
 impl KeptIndex {
+    /// An index of nothing, which serves no router.
+    pub(crate) fn nothing(alloc: Global) -> Result<KeptIndex, NoMemory> {
+        let none = Vec::new(alloc);
+        let known = Index::merged(alloc, none)?;
+        let index = Shared::new(alloc, known)?;
+        let nodes = Vec::new(alloc);
+        let assigned = Vec::new(alloc);
+        Ok(KeptIndex {
+            own: NodeId(0),
+            nodes,
+            assigned,
+            index,
+        })
+    }
+
+    /// Whether it is of no node.
+    pub(crate) fn is_of_nothing(&self) -> bool {
+        self.nodes.is_empty()
+    }
+
     /// An index of what a router sees and holds.
     pub(crate) fn of(
         alloc: Global,
@@ -135,7 +156,8 @@ impl KeptIndex {
         held: &Held,
         index: Shared<Index>,
     ) -> Result<KeptIndex, NoMemory>
-        requires { AreAdvertised (plain_view view.now) held.now.assigned index }
+        requires network { IsNetwork view.now.own.0 view.now.nodes.now }
+        requires index { AreAdvertised (plain_view view.now) held.now.assigned index }
     {
         let nodes = copies(alloc, view.nodes)?;
         let assigned = Vec::from_slice(alloc, held.assigned.as_slice())?;
@@ -159,5 +181,24 @@ impl KeptIndex {
             return Ok(Some(self.index.clone()?));
         }
         Ok(None)
+    }
+
+    /// An index of what a router sees and holds: this one renewed, where it is of many and of the same router.
+    pub(crate) fn renewed(
+        &self,
+        alloc: Global,
+        view: &View<'_>,
+        held: &Held,
+    ) -> Result<Index, NoMemory>
+        requires { IsNetwork view.now.own.0 view.now.nodes.now }
+        ensures { IfOk result (AreAdvertised (plain_view view.entry.now) held.now.assigned) }
+    {
+        if is_same(self.own, view.own) {
+            let known = self.index.get();
+            if known.is_ordered() {
+                return renewed(alloc, known.as_slice(), &self.nodes, view, held);
+            }
+        }
+        Index::gather(alloc, view, held)
     }
 }

@@ -15,6 +15,7 @@ mod lines;
 mod of_pairs;
 mod pair;
 mod precedence;
+mod renewing;
 mod rest;
 mod scene;
 mod slot;

@@ -4,12 +4,14 @@ ghost use Rattle.hn_data.specs.View.{plain_view, IsNetwork};
 ghost use Rattle.hn_assign.specs.Gathered.{AreAdvertised};
 ghost use Rattle.hn_assign.specs.Facts.{AreWishes, IsInDelegated, IsAssignedPast, HasOwnPriority};
 ghost use Rattle.hn_assign.specs.Pair.{IsAscending, assigned_pair, backoff_pair, wish_pair};
+ghost use Rattle.hn_assign.specs.Renewed.{HasOfOthers};
 ghost use Rattle.hn_assign.specs.Subroutine.{IsBegun, AreSteps, IsSubroutine};
 
 use crate::assigned::Wish;
 use crate::held::{Held, Ran};
 use crate::index::Index;
 use crate::kept_index::KeptIndex;
+use crate::renewing::renewed;
 use crate::wishes::Wishes;
 use hn_base::{NoMemory, Shared, Words};
 use hn_data::View;
@@ -124,7 +126,8 @@ fn turns<D: Draw>(
 {
     words_join();
     if wishes.is_empty() {
-        return Ok(None);
+        let next = let_go(alloc, kept)?;
+        return Ok(next);
     }
     let (mut known, served) = first_known(alloc, view, &ran.held, kept)?;
     let changed = all_turns(alloc, view, wishes, &mut known, ran, draw)?;
@@ -135,12 +138,45 @@ fn turns<D: Draw>(
     Ok(Some(Shared::new(alloc, next)?))
 }
 
+/// The index that takes the place of one that nothing asks for any more: one of nothing, so its memory is free again.
+fn let_go(
+    alloc: Global,
+    kept: &Option<Shared<KeptIndex>>,
+) -> Result<Option<Shared<KeptIndex>>, NoMemory> {
+    let Some(kept) = kept else {
+        return Ok(None);
+    };
+    if kept.get().is_of_nothing() {
+        return Ok(None);
+    }
+    let nothing = KeptIndex::nothing(alloc)?;
+    Ok(Some(Shared::new(alloc, nothing)?))
+}
+
 /// What the router knows to be advertised.
 fn gathered(alloc: Global, view: &View<'_>, held: &Held) -> Result<Shared<Index>, NoMemory>
     requires { IsNetwork view.now.own.0 view.now.nodes.now }
     ensures { IfOk result (AreAdvertised (plain_view view.entry.now) held.now.assigned) }
 {
     Shared::new(alloc, Index::gather(alloc, view, held)?)
+}
+
+/// The same, from what it knew with other assignments of its own.
+fn gathered_again(
+    alloc: Global,
+    view: &View<'_>,
+    known: &Index,
+    held: &Held,
+) -> Result<Shared<Index>, NoMemory>
+    requires network { IsNetwork view.now.own.0 view.now.nodes.now }
+    requires known { HasOfOthers view.now.own.0 view.now.nodes.now known.now }
+    ensures { IfOk result (AreAdvertised (plain_view view.entry.now) held.now.assigned) }
+{
+    if !known.is_ordered() {
+        return gathered(alloc, view, held);
+    }
+    let again = renewed(alloc, known.as_slice(), view.nodes, view, held)?;
+    Shared::new(alloc, again)
 }
 
 /// The same, from the index that is kept where that serves, and whether it does.
@@ -157,6 +193,8 @@ fn first_known(
         if let Some(known) = kept.get().serve(view, held)? {
             return Ok((known, true));
         }
+        let known = kept.get().renewed(alloc, view, held)?;
+        return Ok((Shared::new(alloc, known)?, false));
     }
     let known = gathered(alloc, view, held)?;
     Ok((known, false))
@@ -184,7 +222,7 @@ fn all_turns<D: Draw>(
     let mut changed = false;
     for wish in wishes {
         if ran.step(view, known.get(), wish, draw)? {
-            *known = gathered(alloc, view, &ran.held)?;
+            *known = gathered_again(alloc, view, known.get(), &ran.held)?;
             changed = true;
         }
     }

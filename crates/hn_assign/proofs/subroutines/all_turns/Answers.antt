@@ -1,5 +1,7 @@
 use Rattle.hn_base.proofs.Names.{List, sym, subst, take}
-use Rattle.hn_assign.proofs.Names.{plain_view, Wish, AreAdvertised, AreSteps, front_more}
+use Rattle.hn_assign.specs.Renewed.{HasOfOthers}
+use Rattle.hn_assign.proofs.Renewals.{has_of_others}
+use Rattle.hn_assign.proofs.Names.{Advertised, plain_view, Wish, AreAdvertised, AreSteps, front_more}
 use Rattle.hn_assign.proofs.MoreSteps.{steps_more, took_more}
 use Rattle.hn_assign.proofs.subroutines.all_turns.Goals as goal
 use Rattle.hn_assign.proofs.subroutines.all_turns.Goals.{then-branch+in_ok-known, else-branch}
@@ -25,3 +27,9 @@ loop-wish-preserved g c =
 pub step-requires-clause-known : goal.step-requires-clause-known
 step-requires-clause-known g c =
     subst (AreAdvertised (plain_view c.args.view.now) c.loop-wish.ran.held.assigned) (sym c.get.ensures) c.loop-wish.invariant.known
+
+pub gathered_again-requires-clause-known : goal.gathered_again-requires-clause-known
+gathered_again-requires-clause-known g c =
+    let view = plain_view c.args.view.now in
+    subst (λ (known : List Advertised). HasOfOthers view.own view.nodes known) (sym c.get-then-branch.ensures)
+    (has_of_others view c.loop-wish.ran.held.assigned c.loop-wish.known c.loop-wish.invariant.known)

@@ -13,4 +13,5 @@ returns-then-are_alike c =
     let view = plain_view c.args.view.now in
     subst (AreAdvertised view c.args.held.now.assigned) (sym c.in_ok-clone.ensures.cases)
     (alike_advertised c.self.inside.own.0 0 c.self.inside.nodes.items view c.self.inside.assigned.items c.args.held.now.assigned c.self.inside.index
-    (ap (λ (id : NodeId). id.0) same.0) (sym c.deref-2.ensures.value ∙ same.1) (subst (λ (nodes : List Entry). AdvertiseAlike nodes view.nodes) c.deref.ensures.value same.2) c.self.invariant.advertised)
+    (ap (λ (id : NodeId). id.0) same.0) (sym c.deref-2.ensures.value
+    ∙ same.1) (subst (λ (nodes : List Entry). AdvertiseAlike nodes view.nodes) c.deref.ensures.value same.2) c.self.invariant.advertised)

@@ -9,7 +9,7 @@ use Rattle.hn_data.specs.View.{PlainView, ids_of}
 use Rattle.hn_data.specs.declared.view.Entry.{Entry}
 use Rattle.hn_assign.specs.Alike.{AdvertisesAs}
 use Rattle.hn_assign.specs.Gathered.{IsOfOther, IsOwn, AreAdvertised}
-use Rattle.hn_assign.specs.Renewed.{HasOfOthers, IsUnchanged, AreUnchanged, IsOfChanged, IsOfUnchanged}
+use Rattle.hn_assign.specs.Renewed.{HasOfOthers, AdvertisesOn, AreUnchanged, IsOfChanged, IsOfUnchanged}
 use Rattle.hn_assign.specs.declared.assigned.Advertised.{Advertised}
 use Rattle.hn_assign.specs.declared.assigned.Assigned.{Assigned}
 use Rattle.hn_assign.proofs.Alikes.{back, of_other}

@@ -16,7 +16,7 @@ HasOfOthers own nodes known =
     (a : Advertised) → a.key.node.0 ≢ own → Contains known a ↔ ((entry : Entry) × Contains nodes entry × IsOfOther own entry a)
 
 -- another node than the own one, which advertises what it did before
-pub record IsUnchanged (own : ℕ) (before : List Entry) (node : Entry) : Type 0 where
+pub record AdvertisesOn (own : ℕ) (before : List Entry) (node : Entry) : Type 0 where
   pub another : node.id.0 ≢ own
   pub was : Entry
   pub among : Contains before was
@@ -25,7 +25,7 @@ pub record IsUnchanged (own : ℕ) (before : List Entry) (node : Entry) : Type 0
 -- each of these is the identifier of an unchanged node
 abbrev pub AreUnchanged : ℕ → List Entry → List Entry → List NodeId → Type 0
 AreUnchanged own before after ids =
-    (id : NodeId) → Contains ids id → (node : Entry) × Contains after node × (node.id ≡ id) × IsUnchanged own before node
+    (id : NodeId) → Contains ids id → (node : Entry) × Contains after node × (node.id ≡ id) × AdvertisesOn own before node
 
 -- a node that is none of these advertises it
 pub record IsOfChanged (own : ℕ) (unchanged : List NodeId) (entry : Entry) (a : Advertised) : Type 0 where

@@ -9,7 +9,7 @@ ghost use Rattle.hn_data.specs.declared.view.Entry.{Entry};
 ghost use Rattle.hn_data.specs.View.{plain_view, ids_of, IsNetwork};
 ghost use Rattle.hn_assign.specs.declared.assigned.Advertised.{Advertised};
 ghost use Rattle.hn_assign.specs.Gathered.{AreAdvertised};
-ghost use Rattle.hn_assign.specs.Renewed.{HasOfOthers, IsUnchanged, AreUnchanged, IsOfChanged, IsOfUnchanged};
+ghost use Rattle.hn_assign.specs.Renewed.{HasOfOthers, AdvertisesOn, AreUnchanged, IsOfChanged, IsOfUnchanged};
 
 use crate::assigned::Advertised;
 use crate::gathering::{add_other, add_own};
@@ -23,7 +23,7 @@ use std::alloc::Global;
 /// Whether a node is another one than the router's own, and advertises what it did before.
 fn is_unchanged(own: NodeId, before: &[Entry], node: &Entry) -> bool
     requires { IsStrictlySortedBy nat_cmp (ids_of before.now) }
-    ensures { IsTrue result → IsUnchanged own.0 before.now node.now }
+    ensures { IsTrue result → AdvertisesOn own.0 before.now node.now }
 {
     let Some(place) = place_of(before, node.id) else {
         return false;
@@ -77,7 +77,7 @@ fn add_if_unchanged(
 ) -> Result<(), NoMemory>
     requires { IsStrictlySortedBy nat_cmp (ids_of before.now) }
     ensures { OnOk result ((id : NodeId) → Contains ids.new.items id
-        → Contains ids.old.items id ⊎ ((node.now.id ≡ id) × IsUnchanged own.0 before.now node.now)) }
+        → Contains ids.old.items id ⊎ ((node.now.id ≡ id) × AdvertisesOn own.0 before.now node.now)) }
 {
     if !is_unchanged(own, before, node) {
         return Ok(());

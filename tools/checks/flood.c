@@ -2,10 +2,12 @@
  *
  * A quarter of the datagrams are random bytes, a quarter are lists of TLVs with random values, a quarter begin with a Node
  * Endpoint, and a quarter carry the states of nodes with hashes that are wrong. It sends A_SECOND times SECONDS datagrams,
- * says how many went out, and ends. The bytes are the same each time. */
+ * says how many went out, and ends. The bytes are the same each time. It runs before all else where it may (SCHED_FIFO), so that a
+ * busy machine makes no flood slower. */
 #define _GNU_SOURCE
 #include <arpa/inet.h>
 #include <net/if.h>
+#include <sched.h>
 #include <stdint.h>
 #include <stdio.h>
 #include <stdlib.h>
@@ -70,6 +72,7 @@ int main(int count, char **words)
     if (count != 4 || out < 0 || (there.sin6_scope_id = if_nametoindex(words[1])) == 0)
         return 1;
     inet_pton(AF_INET6, "ff02::11", &there.sin6_addr);
+    sched_setscheduler(0, SCHED_FIFO, &(struct sched_param){.sched_priority = 1});
     double rate = atof(words[2]);
     unsigned long all = (unsigned long)(rate * atof(words[3])), sent = 0;
     clock_gettime(CLOCK_MONOTONIC, &begun);

@@ -436,7 +436,7 @@ class Home:
             return
         link = len(self.members) - 1
         with ONE_FLOOD:
-            done = subprocess.run(['nice', '-n', '-20', 'ip', 'netns', 'exec', self.space(f'h{link}'), self.tools.flood, f'l{link}', *map(str, FLOOD)],
+            done = subprocess.run(['ip', 'netns', 'exec', self.space(f'h{link}'), self.tools.flood, f'l{link}', *map(str, FLOOD)],
                                   stdout=subprocess.PIPE)
             must(done.returncode == 0, f'{self.name}: the flood ends with status {done.returncode}')
         count, seconds = done.stdout.decode().split()

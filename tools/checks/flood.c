@@ -59,7 +59,7 @@ static size_t make(uint8_t bytes[MOST + 512])
         return length;
     }
     while (length < wanted)
-        length += write_tlv(bytes + length, next() % 48, next() % 64);
+        length += write_tlv(bytes + length, (unsigned)(next() % 48), next() % 64);
     return length;
 }
 

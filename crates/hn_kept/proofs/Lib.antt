@@ -8,3 +8,11 @@ pub mod Choosings
 pub mod ChosenEvents
 pub mod PlaceOfPrefix
 pub mod NothingPreferred
+pub mod HeldInTick
+pub mod StepsOfPairs
+pub mod PairTurns
+pub mod ThroughTurns
+pub mod KeptCounts
+pub mod TurnOutcomes
+pub mod FreePublished
+pub mod NewPreferred

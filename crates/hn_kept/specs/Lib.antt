@@ -1,3 +1,4 @@
+pub mod Anew
 pub mod Choosing
 pub mod Kept
 pub mod Laws

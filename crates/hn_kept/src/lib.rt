@@ -9,6 +9,6 @@ mod preferred;
 mod words;
 
 pub use keeper::Keeper;
-pub use laws::{nothing_preferred, place_is_published};
+pub use laws::{free_is_published, new_is_preferred, nothing_preferred, place_is_published};
 pub use preferred::Preferred;
 pub use words::ChaChaWords;

@@ -1,0 +1,19 @@
+use Rattle.hn_kept.proofs.NewPreferred.{new_is_preferred}
+use Rattle.hn_kept.proofs.laws.new_is_preferred.Goals as goal
+
+pub returns : goal.returns
+returns c = new_is_preferred (
+    record {
+      turns = record {
+        total = c.pairs_are_ordered.ensures.total;
+        usable = c.usable_is_unique.ensures;
+        steps = c.steps_have_one_result.ensures.steps;
+        best = c.answers_know_no_order.ensures.best;
+        expiry = c.rules_have_one_result.ensures.expiry;
+        refresh = c.rules_have_one_result.ensures.refresh;
+      };
+      result = c.event_has_a_result.ensures;
+      stays = c.router_stays.ensures;
+      first = c.place_is_first.ensures;
+      inside = c.inside_are_sub_prefixes.ensures;
+    }) c.subroutine_leaves.ensures.wished

@@ -83,8 +83,12 @@ impl Keeper {
     }
 
     /// A prefix is preferred for a pair, in place of what was before, if 511 other pairs or fewer have one: whether they have.
-    /// Where the router publishes a prefix for the pair anew in a tick, it publishes this one if that is free then. Nothing
-    /// forgets it.
+    /// Nothing forgets it.
+    ///
+    /// Where a tick makes the assignment of the pair anew, and this prefix is free when the turn of the pair comes, the pair has
+    /// it afterwards and publishes it, if that costs no other preferred pair its prefix. Only pairs that come later in the order
+    /// of pairs can lose theirs. It says so of a tick with few words to try: as many as it takes, for each preferred pair that
+    /// has another prefix anew, and 1,024 at most. (Laws `free_is_published` and `new_is_preferred`.)
     ///
     /// # Errors
     ///
@@ -126,8 +130,8 @@ impl Keeper {
         asked.choose(alloc, &mut seen)
     }
 
-    /// An event happens to the router at a moment. In a tick a pair that is preferred gets its prefix where the rules publish
-    /// one for it anew, if that is free then.
+    /// An event happens to the router at a moment. In a tick a preferred pair whose assignment is made anew gets its prefix, if
+    /// that is free then and costs no other preferred pair its own (`prefer`).
     ///
     /// # Errors
     ///

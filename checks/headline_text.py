@@ -115,7 +115,7 @@ Wherever the trace of `w` is cut into a past and a future, the past leads to a w
 
 Two routers with equal hashes have equal leaves, or a collision is among what these two hash. A router keeps `net` as a field. By law it is at each moment the hash of the leaves as they then are: `hn_rules/src/laws.rt: hash_is_of_leaves`.
 
-Each hash of 64 bits collides somewhere. So `IsCollision` says where: the texts of these two routers collide, or the texts are equal and node data at one place of the two lists collide.''', (
+Each hash of 64 bits collides somewhere. So `IsCollision` says where: the texts of these two routers collide, or the texts are equal and node data at one place of the two lists collide. The script `two_data_of_one_hash.script` has such a home, and `compare` shows the two.''', (
         'hn_world/specs/Leaves.antt: EqualHashesAgree', 'hn_hash/specs/Agreement.antt: IsCollision')),
     Part('''### Claim 2: settled and quiet routers are sound
 

@@ -108,7 +108,7 @@ def _fields(found: Headline) -> List[str]:
             if 'pub %s:' % name not in code:
                 raise NotFound('%s of %s, which a text of checks/ names' % (name, row.place))
         shown = ', '.join('`%s`' % name for name in row.fields.split())
-        lines.append('| %s, a `%s` | %s | %s |' % (row.of, row.place.split(': ')[1], shown, row.says))
+        lines.append('| %s, type `%s` | %s | %s |' % (row.of, row.place.split(': ')[1], shown, row.says))
     return lines + ['']
 
 

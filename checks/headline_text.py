@@ -60,7 +60,7 @@ Both are said of the home at the end of the play, `result.world`, and of each ea
 
 **Not claimed:**
 
-- That a home comes to be settled and quiet, or when.
+- That a home comes to be settled and quiet, or when. ([CAMPAIGNS](CAMPAIGNS.md#when-does-a-home-come-to-rest) has how soon random homes did.)
 - That hosts are told. Sound speaks of assignments, applied or not. (What hosts are told is the clause `told` of [CLAUSES](CLAUSES.md).)
 - Anything of real links, or of `node`, the form that is one router by the clock. `node` has no world.
 - IPv4: RFC 7788 writes an IPv4 prefix as one of 96 bits or more, and no d of more than 64 bits is used.
@@ -109,7 +109,7 @@ DEFINITIONS = '''Each has a sentence before it. What it names is put in words af
 FIRST = (
     Part('''### At each moment
 
-Wherever the trace of `w` is cut into a past and a future, the past leads to a world `then`, and `P` holds of it. By law a trace leads to at most one world: `hn_world/src/law.rt: at_most_one_world`. So `then` is the world of that moment, and `w` itself where no future is left.''', (
+`Always P w`: wherever the trace of `w` is cut into a past and a future, the past leads to a world `then`, and `P` holds of it. By law a trace leads to at most one world: `hn_world/src/law.rt: at_most_one_world`. So `then` is the world of that moment, and `w` itself where no future is left.''', (
         'hn_world/specs/Replay.antt: Always',)),
     Part('''### Claim 1: equal hashes
 
@@ -123,13 +123,13 @@ Each router of the set is judged by what it saw up to its own last event.''', (
         'hn_plain/specs/Plain.antt: SettledAreSound',)),
     Part('''### Sound
 
-In `each_link`, `t` and `f` say only that some post of the set is on the link.''', (
+A router is sound if the three fields hold, which have comments. In `each_link`, `t` and `f` say only that some post of the set is on the link.''', (
         'hn_plain/specs/Plain.antt: IsSound',)),
     Part('''A post goes without d if it has no assignment for d, and its router does not want d or sees nothing free in d.''', (
         'hn_plain/specs/Plain.antt: GoesWithout',)),
     Part('''### Settled
 
-Three fields need a word:
+A router is settled if the six fields hold, which have comments. Three of them need a word:
 
 - `known`: with it `r` is of its own set, since each router reaches itself.
 - `used` does not follow from `held`. Each router counts lifetimes at its own last event, so one may have ended for one router and not yet for another.

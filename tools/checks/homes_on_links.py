@@ -38,7 +38,7 @@ REACHES = 5                       # seconds for which a host asks for echoes bef
 SILENT = 45                       # seconds after which a router that is silent is lost
 AT_REST, FLOODED = 3000, 50000    # kB of memory at most: at rest, and whatever strangers do
 TABLE, CROWDED = 256, 900         # other nodes that a router knows at most, and seconds in which a crowd comes to all routers
-FLOOD = 50000, 5                  # datagrams a second, and seconds
+FLOOD, SENDERS = (50000, 5), 2    # datagrams a second, and seconds; processes that send them together
 SHOWN = 1500                      # commands that write to the log that nobody reads: 200 kB or more
 STRANGER = 20                     # seconds for which each set of prefixes is told
 SEVERAL, MOST_ADVERT = 500, 1272  # bytes, with the header of IPv6: of an advertisement of more prefixes than a link has; of any
@@ -435,12 +435,13 @@ class Home:
         if not self.tools.flood:
             return
         link = len(self.members) - 1
+        rate, seconds = FLOOD
+        words = ['ip', 'netns', 'exec', self.space(f'h{link}'), self.tools.flood, f'l{link}', str(rate // SENDERS), str(seconds)]
         with ONE_FLOOD:
-            done = subprocess.run(['ip', 'netns', 'exec', self.space(f'h{link}'), self.tools.flood, f'l{link}', *map(str, FLOOD)],
-                                  stdout=subprocess.PIPE)
-            must(done.returncode == 0, f'{self.name}: the flood ends with status {done.returncode}')
-        count, seconds = done.stdout.decode().split()
-        self.tools.flooded.append(int(count) / float(seconds))
+            sending = [subprocess.Popen(words, stdout=subprocess.PIPE) for _ in range(SENDERS)]
+            said = [each.communicate()[0].decode().split() for each in sending]
+        must(all(each.returncode == 0 for each in sending), f'{self.name}: the flood ends with status {[each.returncode for each in sending]}')
+        self.tools.flooded.append(sum(int(count) for count, _ in said) / max(float(took) for _, took in said))
         self.must_rest('flooded')
 
     def is_full(self, number):

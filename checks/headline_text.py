@@ -61,7 +61,7 @@ Both are said of the home at the end of the play, `result.world`, and of each ea
 **Not claimed:**
 
 - That a home comes to be settled and quiet, or when. ([CAMPAIGNS](CAMPAIGNS.md#when-does-a-home-come-to-rest) has how soon random homes did.)
-- That hosts are told. Sound speaks of assignments, applied or not. (What hosts are told is the clause `told` of [CLAUSES](CLAUSES.md).)
+- That hosts are told. Sound speaks of assignments, applied or not. (The clause `told` of [CLAUSES](CLAUSES.md) speaks of hosts.)
 - Anything of real links, or of `node`, the form that is one router by the clock. `node` has no world.
 - IPv4: RFC 7788 writes an IPv4 prefix as one of 96 bits or more, and no d of more than 64 bits is used.
 - Delegated prefixes past the first 32; two endpoints of one router on one link, which no script can have; and [what the model leaves out](MODEL.md#what-is-left-out).
@@ -91,7 +91,7 @@ FIELDS_SAY = '''The fields that a first reading needs:'''
 
 FIELDS = (
     Field('world `w`', 'hn_world/src/parts.rt: Parts', 'members trace version',
-          'its routers; its trace; 1 or 2, the language of the script (`hncp 1` above)'),
+          'its routers; its trace; 1 or 2, by the first line of the script'),
     Field('router `r`', 'hn_world/src/member.rt: Member', 'router', 'its state'),
     Field('state `s`', 'hn_rules/src/state.rt: State', 'id net reach',
           'node identifier; network state hash; the identifiers that it reaches, as it last worked them out'),
@@ -125,8 +125,6 @@ Each router of the set is judged by what it saw up to its own last event.''', (
 
 A router is sound if the three fields hold, which have comments. In `each_link`, `t` and `f` say only that some post of the set is on the link.''', (
         'hn_plain/specs/Plain.antt: IsSound',)),
-    Part('''A post goes without d if it has no assignment for d, and its router does not want d or sees nothing free in d.''', (
-        'hn_plain/specs/Plain.antt: GoesWithout',)),
     Part('''### Settled
 
 A router is settled if the six fields hold, which have comments. Three of them need a word:
@@ -171,7 +169,9 @@ GLOSSES = {
     'hn_plain/specs/Plain.antt: IsThere': 'the router `s` is of the set of `r`, and its post `e` is on the link',
     'hn_audit/specs/Sound.antt: HasAssignment': 'the post `e` of the router has the assignment `c`, which is for `d`',
     'hn_plain/specs/Plain.antt: DoesNotWant': 'the router uses d and does not want it',
-    'hn_plain/specs/Plain.antt: SeesNoFree': 'each prefix inside d of the length that the post gets overlaps an advertised one',
+    'hn_plain/specs/Plain.antt: GoesWithout':
+        'the post has no assignment for d, and its router does not want d or sees nothing free in d: each prefix in d of the length '
+        'that the post gets overlaps an advertised one',
     'hn_audit/specs/Settled.antt: HoldsState': 'the first router holds exactly the sequence number and node data that the second has',
     'hn_audit/specs/Reached.antt: AreOnOneLink': 'the two endpoints are attached to one link',
     'hn_plain/specs/Plain.antt: AreLinked': 'by these node data, endpoint `e` of the first node and `f` of the second name each other as peers',

@@ -4,7 +4,7 @@ They stand in a row: the first is a peer of the node that is attacked, and each 
 """
 import struct
 
-from items import hash_of, padded
+from rulercress.tools.items import hash_of, padded
 
 # Types of TLVs (RFC 7787, section 7; RFC 7788, section 10).
 NODE_ENDPOINT, NODE_STATE, PEER, VERSION, EXTERNAL, DELEGATED, ASSIGNED = 3, 5, 8, 32, 33, 34, 35

@@ -31,8 +31,8 @@ module _ (law : OwnIntervalIsDefault) (w : Parts) (r : Member) (known : IsKnown 
             (subst (λ (o : Option Stored). HasInterval o endpoint interval) found promised)
       ]
 
-  pub none_expired : (heard now : ℕ) → AreHeardSince heard w r → now < heard + 42000 → AreHeard now s.router
-  none_expired heard now since soon =
+  pub none_has_expired : (heard now : ℕ) → AreHeardSince heard w r → now < heard + 42000 → AreHeard now s.router
+  none_has_expired heard now since soon =
       all_of (λ (q : Port). All (λ peer. ¬ (IsExpired (at_moment now s.router) peer)) q.peers) s.router.ports
       (λ q q_in. all_of (λ (peer : Neighbour). ¬ (IsExpired (at_moment now s.router) peer)) q.peers
       (λ peer peer_in (interval, promised, expired).

@@ -9,7 +9,7 @@ use Rattle.hn_audit.specs.Lasting.{GoesInTimelyTurns, GoesTimely, IsLastingHome,
 use Rattle.hn_audit.proofs.AcceptedRuns.{receives_running, ticks_running}
 use Rattle.hn_audit.proofs.BridgeWorlds.{known_of}
 use Rattle.hn_audit.proofs.CalmDeliveries.{only_passing}
-use Rattle.hn_audit.proofs.HeardOnwards.{none_expired}
+use Rattle.hn_audit.proofs.HeardOnwards.{none_has_expired}
 use Rattle.hn_audit.proofs.LastingRouters.{LastsOn, UntilLaws, lasts_over_passing, lasts_over_tick, younger}
 use Rattle.hn_audit.proofs.RestsOnwards.{GoesOn}
 use Rattle.hn_audit.proofs.RoundsRenewed.{one_round, replays_all, rests_now, which_at}
@@ -74,7 +74,7 @@ lasts_by laws until heard since (event.Tick name) words notes before between aft
     let known = known_of worlds before r replays rest.runs rest.settled in
     let on : LastsOn until before.moment x.router n =
     lasts_over_tick laws.until until before.moment x.router sound.router sound.past timely.1 (rest.quiet x reached) (home.each x reached) n acts.done acts.happened
-    (none_expired laws.turns.rounds.heard.interval before r known x reached heard before.moment peers timely.0) in
+    (none_has_expired laws.turns.rounds.heard.interval before r known x reached heard before.moment peers timely.0) in
     record {
       lossless = λ place y then is there reached_y.
           let place_is : does.place ≡ place = same_Some does.place place (sym does.is_place ∙ is) in

@@ -9,7 +9,7 @@ use Rattle.hn_audit.specs.Heard.{GoesSteadily, RestLastsWhileHeard}
 use Rattle.hn_audit.proofs.AcceptedRuns.{time_goes_on}
 use Rattle.hn_audit.proofs.BridgeWorlds.{known_of}
 use Rattle.hn_audit.proofs.CalmDeliveries.{passed}
-use Rattle.hn_audit.proofs.HeardOnwards.{none_expired, HeardOn, heard_itself, passing_heard}
+use Rattle.hn_audit.proofs.HeardOnwards.{none_has_expired, HeardOn, heard_itself, passing_heard}
 use Rattle.hn_audit.proofs.RestsOnwards.{RestingLaws, GoesOn, ran, one_event, nothing_goes, both_go}
 use Rattle.hn_audit.proofs.StayingSteps.{put_there, which}
 use Rattle.hn_audit.proofs.NextWorlds.{replays_more}
@@ -30,7 +30,7 @@ calm_by laws heard since (event.Tick name) before after r replays rest heard_sin
     let (soon, holds) = steady place x next is at reached in
     record {
       uneventful = record {
-        heard = none_expired laws.interval before r known x reached heard before.moment heard_since soon;
+        heard = none_has_expired laws.interval before r known x reached heard before.moment heard_since soon;
         lasting = holds.lasting;
         young = holds.young.young;
         leads = holds.young.leads;

@@ -79,8 +79,8 @@ module _ (laws : CalmLaws) (s : State) (now : ℕ) (router : IsRouter s) (begun 
   refreshed_forgot : IsRefreshed forgot
   refreshed_forgot = refreshed_forgetting laws.reach start refreshed_then
 
-  pub refreshed_forgot : IsJustRefreshed forgot
-  refreshed_forgot = undue_refreshed laws.reach forgot refreshed_forgot quiet.young (All-filter (stays now) (LeadsOn now) s.table.entries quiet.leads)
+  pub just_refreshed_forgot : IsJustRefreshed forgot
+  just_refreshed_forgot = undue_refreshed laws.reach forgot refreshed_forgot quiet.young (All-filter (stays now) (LeadsOn now) s.table.entries quiet.leads)
 
   -- what is held of a reachable node stays
   pub known_forgot : (id : NodeId) → Contains s.reach id → held forgot.table.entries id.0 ≡ held s.table.entries id.0
@@ -113,7 +113,7 @@ module _ (laws : CalmLaws) (s : State) (now : ℕ) (router : IsRouter s) (begun 
         let same = changes_none ran (assigned_then ran assigns.is_assigned) in
         let after : Running = with_words ran.words (record (forgetting start) { state = record forgot { held = ran.held } }) in
         let here : IsRefresh after settled = subst (λ (x : Running). IsRefresh x settled) assigns.gives refresh in
-        let none : settled ≡ after = only IsRefresh laws.one_refresh after settled here (same_refresh after (with_held forgot ran.held same refreshed_forgot)) in
+        let none : settled ≡ after = only IsRefresh laws.one_refresh after settled here (same_refresh after (with_held forgot ran.held same just_refreshed_forgot)) in
         record { holds = ran.held; same = same; is = ap (λ (x : Running). x.state) none }
 
     -- the router after it, but for its endpoints

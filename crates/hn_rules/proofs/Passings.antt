@@ -6,7 +6,7 @@ use Rattle.hn_typed.specs.Item as item
 use Rattle.hn_rules.specs.Passing.{IsLetPass}
 use Rattle.hn_rules.proofs.AtPorts.{at_port}
 use Rattle.hn_rules.proofs.RefreshChangesNothing.{same_refresh}
-use Rattle.hn_rules.proofs.Refreshes.{refreshed_untouched}
+use Rattle.hn_rules.proofs.Refreshes.{just_refreshed_untouched}
 use Rattle.hn_rules.proofs.Resting.{named_stays, compared_stays}
 use Rattle.hn_rules.proofs.TouchesNothingRead.{network_state_untouched}
 
@@ -50,7 +50,7 @@ module _ (from : Origin) (bytes : List ℕ) (now : ℕ) (s : State) (node : Node
       second = inl (item.NetworkState hash passes.update.within_second, passes.update.state, states)
 
       fresh : IsJustRefreshed after.state
-      fresh = refreshed_untouched named.state after.state (network_state_untouched from hash named after passes.ports states) passes.fresh
+      fresh = just_refreshed_untouched named.state after.state (network_state_untouched from hash named after passes.ports states) passes.fresh
 
       tlvs : IsTlvs from (passes.update.first ∷ passes.update.second ∷ []) start after
       tlvs = (named, (named, first, same_refresh named passes.fresh), (after, (after, second, same_refresh after fresh), refl))

@@ -68,8 +68,8 @@ refreshed_ports s ports same is = record {
   hashed = is.hashed;
 }
 
-refreshed_ports : (s : State) (ports : List Port) → links_of ports ≡ links_of s.ports → IsJustRefreshed s → IsJustRefreshed (record s { ports = ports })
-refreshed_ports s ports same is = record {
+just_refreshed_ports : (s : State) (ports : List Port) → links_of ports ≡ links_of s.ports → IsJustRefreshed s → IsJustRefreshed (record s { ports = ports })
+just_refreshed_ports s ports same is = record {
   refreshed = refreshed_ports s ports same is.refreshed;
   reached = record { ascending = is.reached.ascending; exactly = is.reached.exactly };
   young = is.young;
@@ -86,8 +86,8 @@ untouched_same s a is = subst (IsUntouched s) (sym is) (untouched_self s)
 pub refreshed_untouched : (s a : State) → IsUntouched s a → IsRefreshed s → IsRefreshed a
 refreshed_untouched s a untouched is = subst IsRefreshed (sym untouched.gives) (refreshed_ports s a.ports untouched.links is)
 
-pub refreshed_untouched : (s a : State) → IsUntouched s a → IsJustRefreshed s → IsJustRefreshed a
-refreshed_untouched s a untouched is = subst IsJustRefreshed (sym untouched.gives) (refreshed_ports s a.ports untouched.links is)
+pub just_refreshed_untouched : (s a : State) → IsUntouched s a → IsJustRefreshed s → IsJustRefreshed a
+just_refreshed_untouched s a untouched is = subst IsJustRefreshed (sym untouched.gives) (just_refreshed_ports s a.ports untouched.links is)
 
 -- so it is since a state
 pub record IsKept (start s : State) : Type 0 where
@@ -189,7 +189,7 @@ refreshed_hashing r a (inr (other, resets)) are reached =
     let start : IsJustRefreshed hashed.state = with_hash r.state (network_state_hash r.state) reached refl in
     let kept : Kept hashed.state a = keeps_each (Kept hashed.state) (λ at. AtPort at IsPortReset)
     (λ at. keeps_kept_at hashed.state at IsPortReset reset_keeps) (endpoints_of r.state.ports) hashed a resets (kept_self hashed.state are) in
-    refreshed_untouched hashed.state a.state kept.untouched start
+    just_refreshed_untouched hashed.state a.state kept.untouched start
 
 ports_after : (r a : Running) → IsPublishing r a → a.state.ports ≡ r.state.ports
 ports_after r a (inl (published, is)) = ap (λ (x : Running). x.state.ports) is

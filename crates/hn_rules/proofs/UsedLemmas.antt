@@ -8,10 +8,10 @@ use Rattle.hn_rules.proofs.Names.{IsHashing, IsRefresh, IsUntouched, IsJustRefre
 use Rattle.hn_deleg.specs.Candidates.{SameCandidatesSameUsed, PreferredIsAnnounced, PreferredWasSo}
 use Rattle.hn_rules.specs.KeptAtRest.{UsedWhereAssigned}
 use Rattle.hn_rules.proofs.Announcing.{AnnouncingLaws, AreTwins, Lives, candidate_too, preferred_too}
-use Rattle.hn_rules.proofs.NothingKeptIsDue.{CalmLaws, start, forgot, nothing_lost, refreshed_forgot, same_view}
+use Rattle.hn_rules.proofs.NothingKeptIsDue.{CalmLaws, start, forgot, nothing_lost, just_refreshed_forgot, same_view}
 use Rattle.hn_rules.proofs.SeenWhileTimePasses.{view_later}
 use Rattle.hn_rules.proofs.Leads.{keeps_each}
-use Rattle.hn_rules.proofs.Refreshes.{Kept, kept_self, keeps_kept_at, refreshed_refresh, refreshed_untouched, reset_keeps, tick_keeps, untouched_same}
+use Rattle.hn_rules.proofs.Refreshes.{Kept, kept_self, keeps_kept_at, refreshed_refresh, just_refreshed_untouched, reset_keeps, tick_keeps, untouched_same}
 
 -- ---- lifetimes
 
@@ -114,7 +114,7 @@ module _ (laws : UsedLaws) (s : State) (now : ℕ) (router : IsRouter s) (begun 
       laws.forgetting r (forgetting r) refl (laws.later now s router begun)
 
   before_refreshed : IsJustRefreshed before
-  before_refreshed = refreshed_forgot laws.calm s now router begun quiet
+  before_refreshed = just_refreshed_forgot laws.calm s now router begun quiet
 
   -- what a tick leaves, as far as others and the router itself see it announced
   record IsAfter (after : State) : Type 0 where
@@ -153,7 +153,7 @@ module _ (laws : UsedLaws) (s : State) (now : ℕ) (router : IsRouter s) (begun 
       let own_is : after.state.own ≡ published.state.own = ap (λ (x : State). x.own) whole ∙ ap (λ (x : State). x.own) reached_is in
       record {
         router_is = laws.ticking settled after ticks settled_router;
-        fresh = refreshed_untouched settled.state after.state ticked settled_refreshed;
+        fresh = just_refreshed_untouched settled.state after.state ticked settled_refreshed;
         id = ap (λ (x : State). x.id) whole ∙ ap (λ (x : State). x.id) reached_is ∙ ap (λ (x : State). x.id) published_is;
         moment = ap (λ (x : State). x.moment) whole ∙ ap (λ (x : State). x.moment) reached_is ∙ ap (λ (x : State). x.moment) published_is;
         links = ap (λ (x : PlainData). x.items.links) own_is ∙ by_links assigned.state published.state (ap (λ (x : State). x.own) assigned_is) (ap (λ (x : State). x.ports) assigned_is) from.when;

@@ -18,7 +18,7 @@ use Rattle.hn_router.specs.Laws.{EventHasAResult, RouterStays}
 use Rattle.hn_kept.specs.declared.preferred.Preferred.{Preferred}
 use Rattle.hn_kept.specs.Anew.{preferred_pair, words_before, IsMadeAnew, scene_in, place_in}
 use Rattle.hn_kept.specs.Kept.{Kept}
-use Rattle.hn_kept.specs.Laws.{IsTickOf, IsOfScene, CostsNone, IsLast, published_at, FreeIsPublished, LastIsPublished}
+use Rattle.hn_kept.specs.Laws.{IsTickOf, IsOfScene, CostsNone, IsLastKept, published_at, FreeIsPublished, LastIsPublished}
 use Rattle.hn_kept.specs.Preferred.{word_of, is_kept, is_missed}
 use Rattle.hn_kept.specs.Words.{listed_word}
 use Rattle.hn_kept.proofs.KeptCounts.{kept_is, is_kept_by, is_missed_by, one_more}
@@ -109,9 +109,9 @@ module _ (laws : FreeLaws) (now : ℕ) (before after : Kept) (f : Preferred) (ti
       | inr other ↦ absurd (no_other costs other)
     ]
 
-    -- the last preferred pair costs no other one its prefix
-    pub last_costs_none : IsLast before.preferred f → CostsNone now before after (place_in anew) f
-    last_costs_none last other done happens begins g there is = elim (last g there) [
+    -- where no later pair has its prefix it costs none its prefix
+    pub last_costs_none : IsLastKept after.router.held.assigned before.preferred f → CostsNone now before after (place_in anew) f
+    last_costs_none last other done happens begins g there is = elim (last g there is) [
       | inl same ↦ subst (λ (x : Preferred). is_kept other.held.assigned x ≡ true) (sym same) (would_get other done happens begins)
       | inr less ↦
           let to = tick_happened now before.router other done happens in

@@ -61,16 +61,26 @@ abbrev pub CostsNone : ℕ → Kept → Kept → ℕ → Preferred → Type 0
 CostsNone now before after place f =
     (other : State) (done : Done) → Happened now Tick before.router other done
     → Begins done.words (listed_word (set after.done.words place (word_of f)) before.words)
-    → (g : Preferred) → Contains before.preferred g → is_kept after.router.held.assigned g ≡ true → is_kept other.held.assigned g ≡ true
+    → (g : Preferred) → Contains before.preferred g
+    → is_kept after.router.held.assigned g ≡ true → is_kept other.held.assigned g ≡ true
 
--- each other preferred pair comes before this one in the order of pairs
-abbrev pub IsLast : List Preferred → Preferred → Type 0
-IsLast preferred f =
-    (g : Preferred) → Contains preferred g → (g ≡ f) ⊎ (pair_cmp (preferred_pair g) (preferred_pair f) ≡ Less)
+-- with these assignments each other preferred pair that has its prefix comes before this one, in the order of pairs
+abbrev pub IsLastKept : List Assigned → List Preferred → Preferred → Type 0
+IsLastKept assigned preferred f =
+    (g : Preferred) → Contains preferred g → is_kept assigned g ≡ true
+    → (g ≡ f) ⊎ (pair_cmp (preferred_pair g) (preferred_pair f) ≡ Less)
 
 -- from this moment on the pair has its preferred prefix, which is published with priority 2
 abbrev pub published_at : ℕ → Preferred → Assigned
-published_at now f = record { delegated = f.delegated; endpoint = f.endpoint; prefix = f.prefix; published = Some 2; since = now; applied = false }
+published_at now f =
+    record {
+      delegated = f.delegated;
+      endpoint = f.endpoint;
+      prefix = f.prefix;
+      published = Some 2;
+      since = now;
+      applied = false;
+    }
 
 -- Where a tick makes the assignment of a preferred pair anew, and the preferred prefix is free in the turn of the pair, the pair
 -- has it afterwards and publishes it, if that costs no other preferred pair its prefix.
@@ -81,12 +91,12 @@ FreeIsPublished =
     → CostsNone now before after (place_in anew) f
     → Contains after.router.held.assigned (published_at now f)
 
--- It costs none where the pair is the last preferred one.
+-- It costs none where no later preferred pair has its prefix after the tick.
 abbrev pub LastIsPublished : Type 0
 LastIsPublished =
     (now : ℕ) (before after : Kept) (f : Preferred) → IsTickOf now before after f
     → (anew : IsMadeAnew now before.router after.done.words f) → IsOfScene (scene_in anew) f → IsFreeFor (scene_in anew) f.prefix
-    → IsLast before.preferred f
+    → IsLastKept after.router.held.assigned before.preferred f
     → Contains after.router.held.assigned (published_at now f)
 
 -- Where a pair has no assignment before a tick, and publishes one after it, the tick made it anew; so it is the preferred prefix
@@ -97,4 +107,5 @@ NewIsPreferred =
     → HasAt assigned_pair (preferred_pair f) None before.router.held.assigned
     → Contains after.router.held.assigned c → assigned_pair c ≡ preferred_pair f → c.published ≡ Some priority
     → (anew : IsMadeAnew now before.router after.done.words f)
-    × (IsOfScene (scene_in anew) f → IsFreeFor (scene_in anew) f.prefix → CostsNone now before after (place_in anew) f → c ≡ published_at now f)
+    × (IsOfScene (scene_in anew) f → IsFreeFor (scene_in anew) f.prefix → CostsNone now before after (place_in anew) f
+    → c ≡ published_at now f)

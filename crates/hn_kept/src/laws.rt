@@ -25,8 +25,8 @@ pub fn place_is_published()
 }
 
 /// Where a tick makes the assignment of a preferred pair anew, and the preferred prefix is free when the turn of the pair comes,
-/// the pair has it afterwards and publishes it: if that costs no other preferred pair its prefix (`free`), and so where no
-/// preferred pair comes after it in the order of pairs (`last`).
+/// the pair has it afterwards and publishes it, if that costs no other preferred pair its prefix (`free`). It costs none where no
+/// preferred pair that comes later in the order of pairs has its prefix after the tick (`last`).
 pub fn free_is_published()
     ensures free { FreeIsPublished }
     ensures last { LastIsPublished }

@@ -1,4 +1,4 @@
-use Rattle.hn_kept.proofs.FreePublished.{FreeLaws, free_is_published, last_is_published}
+use Rattle.hn_kept.proofs.FreePublished.{free_is_published, last_is_published}
 use Rattle.hn_kept.proofs.laws.free_is_published.Goals as goal
 
 pub returns-clause-free : goal.returns-clause-free

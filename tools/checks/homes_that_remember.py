@@ -99,6 +99,14 @@ def lines_of_life(tools, space, path, wanted):
     return text
 
 
+def with_line(sound, line):
+    """A sound file with one more line, and with the sum (FNV-1a) of what it has then."""
+    text, total = sound[:sound.rindex(b'end ')] + line, 0xcbf29ce484222325
+    for octet in text:
+        total = (total ^ octet) * 0x100000001b3 % 2 ** 64
+    return text + f'end {total:016x}\n'.encode()
+
+
 def check_files(tools):
     """Each bad file is told in a line, and the router does without. How many there are."""
     space, path = f'{tools.prefix}alone', os.path.join(tools.folder, 'kept', 'alone')
@@ -112,13 +120,18 @@ def check_files(tools):
         lines_of_life(tools, space, path, [f'unused {path} why="No such file or directory"', applied, f'kept {path}'])
         with open(path, 'rb') as file:
             sound = file.read()
-        lines_of_life(tools, space, path, [f'used {path} prefixes=1', applied])
+        for content in (sound, with_line(sound, b''), with_line(sound, b'ula fd12:3456:789a::/48 0\n')):
+            with open(path, 'wb') as file:
+                file.write(content)
+            lines_of_life(tools, space, path, [f'used {path} prefixes=1', applied])
         bad = {'torn': sound[:-20], 'changed': sound.replace(b'prefix l0', b'prefix l1'), 'with a zero': sound[:30] + b'\0' + sound[30:],
-               'empty': b'', 'foreign': b'nothing of the kind\n' * 9, 'of another version': sound.replace(b'hnd-state 1', b'hnd-state 0')}
+               'empty': b'', 'foreign': b'nothing of the kind\n' * 9, 'of another version': sound.replace(b'hnd-state 1', b'hnd-state 0'),
+               'with a ULA prefix that is none': with_line(sound, b'ula 2001:db8::/48 1\n')}
         for name, content in bad.items():
             with open(path, 'wb') as file:
                 file.write(content)
-            why = {'empty': 'foreign', 'foreign': 'foreign', 'of another version': 'of another version'}.get(name, 'torn')
+            why = {'empty': 'foreign', 'foreign': 'foreign', 'of another version': 'of another version',
+                   'with a ULA prefix that is none': 'foreign'}.get(name, 'torn')
             lines_of_life(tools, space, path, [f'unused {path} why="it is {why}"', f'kept {path}'])
         for nowhere in ('/proc/hnd', os.path.join(tools.folder, 'no', 'folder'), '/dev/full/file'):
             lines_of_life(tools, space, nowhere, [f'unkept {nowhere} why=', applied])

@@ -13,7 +13,7 @@ import tempfile
 import time
 
 from checks import homes_on_links as on_links
-from checks.helpers import must
+from checks.helpers import Wrong, must
 
 HOMES = ('line', 3), ('star', 4)
 LOCAL, LENGTH = ipaddress.ip_network('fd00::/8'), 48      # RFC 4193, section 3.1
@@ -117,6 +117,11 @@ class Home(on_links.Home):
 
     def play_off(self):
         """A router makes none any more, so another one does; then none does."""
+        try:
+            self.routers[1].tell('ula maybe')
+            raise Wrong(f'{self.name}: router 1 takes "ula maybe"')
+        except Wrong as wrong:
+            must('error ula takes on or off' in str(wrong), str(wrong))
         begun = time.monotonic()
         self.routers[self.last].tell('ula off')
         self.delegated = [self.made(*self.delegated)]

@@ -58,7 +58,7 @@ IsCalmDelivery copy before after r =
 
 -- ---- an event
 
--- Time passes, a router ticks, or a copy is delivered; if the router is one of the set of r, the tick is restful, and the delivery
+-- Time passes, a router ticks, or a copy is delivered; if the router is one of the set of r, the tick is calm, and the delivery
 -- is calm.
 abbrev pub IsCalm : WEvent → Parts → Parts → Member → Type 0
 IsCalm (event.Time moment) before after r = Unit {0}

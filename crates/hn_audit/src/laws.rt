@@ -244,7 +244,7 @@ pub fn quiet_homes_stay_over_deliveries()
 }
 
 /// A router that is settled and quiet goes on so, with the same assignments: over time that passes, copies that are dropped,
-/// restful ticks, and deliveries to those that it reaches of copies that were made since.
+/// calm ticks, and deliveries to those that it reaches of copies that were made since.
 pub fn rest_goes_on()
     ensures event { RestGoesOn }
     ensures lasts { RestLasts }

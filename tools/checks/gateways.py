@@ -28,7 +28,8 @@ class Decoded(captures.Datagram):
 
 def texts_of(payloads):
     """What `hncp decode` says of each, by few calls: of what is no list of TLVs it is made here."""
-    texts = captures.decode_all(payload for payload in payloads if not items.list_fault(payload))
+    told = captures.decode_all(payload for payload in payloads if not items.list_fault(payload))
+    texts = {payload: each.lines for payload, each in told.items()}
     for payload in payloads:
         fault = items.list_fault(payload)
         if fault:

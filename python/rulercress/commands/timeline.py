@@ -114,9 +114,9 @@ def stored_datagrams(told, routers):
         wanted.append(pool.add(data.hex()))
     texts, size = [], 0
     payloads = [bytes.fromhex(each) for each in pool.items]
-    lines_of = captures.decode_all(payloads)
+    told_of_each = captures.decode_all(payloads)
     for payload in payloads:
-        text = '\n'.join(lines_of[payload])
+        text = '\n'.join(told_of_each[payload].lines)
         size += len(text)
         texts.append(text if size <= story.MOST_TEXT else '(left out: there is too much text)')
     place = {name: number for number, name in enumerate(routers)}

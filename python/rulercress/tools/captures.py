@@ -1,5 +1,4 @@
 """The datagrams of a capture, as tshark reads it."""
-import bisect
 import functools
 import os
 import re
@@ -12,7 +11,7 @@ from .common import Problem
 PORT = 8231       # RFC 7788, section 3
 HEADER = 8        # bytes of a UDP header, which udp.length counts
 UDP = '17'
-BATCH = 2 ** 18   # bytes that are decoded by one call
+BATCH = 2 ** 22   # bytes that are decoded by one call, which takes up to 2 ** 24
 # Which link a frame is of: the interface of the capture, that of `tcpdump -i any`, and the tags of VLANs.
 LINK = ['frame.interface_id', 'sll.ifindex', 'ieee8021ad.id', 'ieee8021ad.svid', 'ieee8021ad.cvid', 'vlan.id']
 FRAGMENT = ['ipv6.fraghdr.ident', 'ipv6.fraghdr.offset', 'ipv6.fraghdr.nxt', 'ip.id', 'ip.frag_offset', 'ip.flags.mf', 'ip.proto', 'data.data']
@@ -35,7 +34,7 @@ class Datagram:
         self.port = port
         self.payload = payload
         self.length = len(payload) if length is None else length
-        self.text = None
+        self.told = None
 
     @property
     def is_cut(self):
@@ -44,48 +43,100 @@ class Datagram:
     @property
     def lines(self):
         """What `hncp decode` says of it."""
-        if self.text is None:
-            self.text = decoded(self.payload)
-        return self.text
+        if self.told is None:
+            self.told = Told(decoded(self.payload))
+        return self.told.lines
+
+    @property
+    def items(self):
+        """Its TLVs as a tree, each time a new one; None if it is no list of TLVs."""
+        if self.told is None:
+            self.told = Told(self.lines)
+        return self.told.items()
+
+
+class Told:
+    """What `hncp decode` says of a datagram."""
+
+    def __init__(self, lines):
+        self.lines = lines
+
+    def items(self):
+        return None if MALFORMED.match(self.lines[0]) else items.told_tree(self.lines[1:])
+
+
+class ToldAmongOthers:
+    """What `hncp decode` says of a list of TLVs that it read as a part of a longer one, in which the list begins at this place."""
+
+    def __init__(self, start):
+        self.start, self.read = start, []
+
+    @property
+    def lines(self):
+        """The lines that it would have alone."""
+        alone = [re.sub(r'\d+', lambda place: str(int(place[0]) - self.start), line, count=1) for line in self.read]
+        return [f'tlvs {sum(not line.startswith(" ") for line in alone)}', *alone]
+
+    def items(self):
+        return items.told_tree(self.read, self.start)
+
+
+MALFORMED = re.compile(r'malformed place=(\d+) why=(\d)$')
+
+
+def decode(payload):
+    """The lines of `hncp decode` for these bytes."""
+    lines = common.decode(payload.hex())
+    if not lines or lines[0].split()[:1] not in (['tlvs'], ['malformed']):
+        raise not_hncp(lines[:1])
+    return lines
+
+
+def not_hncp(lines):
+    return Problem(f'{common.program()} decode writes "{"".join(lines)[:60]}"; it is no hncp')
 
 
 @functools.lru_cache(maxsize=4096)
 def decoded(payload):
     """The lines of `hncp decode` for these bytes; a capture has many datagrams more than once."""
-    lines = common.decode(payload.hex())
-    if not lines or lines[0].split()[:1] not in (['tlvs'], ['malformed']):
-        raise Problem(f'{common.program()} decode writes "{"".join(lines[:1])[:60]}"; it is no hncp')
-    return lines
+    return decode(payload)
 
 
 def decode_all(payloads):
     """What `hncp decode` says of each: a table. Lists of TLVs one after another are one list, which a single call decodes; what is
-    no list has a call of its own."""
-    texts, batch, size = {}, [], 0
-    for payload in dict.fromkeys(payloads):
-        if items.list_fault(payload):
-            texts[payload] = decoded(payload)
-            continue
-        batch.append(payload)
-        size += len(payload)
+    no list has a call of its own, and as many of these run at once as there are processors."""
+    payloads = list(dict.fromkeys(payloads))
+    alone = [payload for payload in payloads if items.list_fault(payload)]
+    told = dict(zip(alone, map(Told, common.in_order(decode, alone))))
+    batch, size = [], 0
+    for payload in payloads:
+        if payload not in told:
+            batch.append(payload)
+            size += len(payload)
         if size > BATCH:
-            decode_batch(batch, texts)
+            told.update(decode_batch(batch))
             batch, size = [], 0
-    decode_batch(batch, texts)
-    return texts
+    told.update(decode_batch(batch))
+    return told
 
 
-def decode_batch(batch, texts):
-    """Decodes lists of TLVs by one call, and gives each the lines that it would have alone."""
-    starts, found = [0], [[] for _ in batch]
+def decode_batch(batch):
+    """Decodes lists of TLVs by one call: what it says of each."""
+    told, ends, size = [], [], 0
     for payload in batch:
-        starts.append(starts[-1] + len(payload))
-    for line in decoded(b''.join(batch))[1:] if batch else []:
-        indent, place, rest = re.match(r'( *)(\d+)(.*)', line, re.S).groups()
-        at = bisect.bisect_right(starts, int(place)) - 1
-        found[at].append(f'{indent}{int(place) - starts[at]}{rest}')
-    for payload, lines in zip(batch, found):
-        texts[payload] = [f'tlvs {sum(not line.startswith(" ") for line in lines)}', *lines]
+        told.append(ToldAmongOthers(size))
+        size += len(payload)
+        ends.append(size)
+    at = 0
+    for line in decode(b''.join(batch))[1:] if batch else []:
+        if not line.startswith(' '):
+            place = common.number(line.partition(' ')[0])
+            if place is None or place >= size:
+                raise not_hncp([line])
+            while place >= ends[at]:
+                at += 1
+        told[at].read.append(line)
+    return zip(batch, told)
 
 
 def decoded_ahead(datagrams):
@@ -101,9 +152,9 @@ def decoded_ahead(datagrams):
 
 
 def with_texts(datagrams):
-    texts = decode_all(each.payload for each in datagrams if not each.is_cut)
+    told = decode_all(each.payload for each in datagrams if not each.is_cut)
     for each in datagrams:
-        each.text = texts.get(each.payload)
+        each.told = told.get(each.payload)
     return datagrams
 
 
@@ -124,20 +175,20 @@ def last(text):
     return text.rpartition(',')[2]
 
 
-def link_of(values):
-    """The link of a frame: the values that say it, but for tags of VLAN 0, which are none."""
-    said = [[each for each in values[name].split(',') if each and (name == LINK[0] or each != '0')] for name in LINK]
+@functools.lru_cache(maxsize=4096)
+def link_of(*texts):
+    """The link of a frame, by its values of LINK: those that say it, but for tags of VLAN 0, which are none."""
+    said = [[each for each in text.split(',') if each and (name == LINK[0] or each != '0')] for name, text in zip(LINK, texts)]
     return ' '.join([','.join(said[0]) or '0', *(f'{name.rpartition(".")[2]}={",".join(each)}' for name, each in zip(LINK[1:], said[1:]) if each)])
 
 
 def datagram_of(values):
     """The datagram of a frame's fields."""
-    values = {**{name: last(text) for name, text in values.items()}, 'link': link_of(values)}
-    source, destination = (values['ipv6.' + way] or values['ip.' + way] for way in ('src', 'dst'))
-    payload = bytes.fromhex(values['udp.payload'].replace(':', ''))
-    length = int(values['udp.length'] or 0)
-    return Datagram(int(values['frame.number']), float(values['frame.time_relative']), values['link'], source,
-                    int(values['udp.srcport']), destination, int(values['udp.dstport']), payload, length - HEADER if length else None)
+    source, destination = (last(values['ipv6.' + way]) or last(values['ip.' + way]) for way in ('src', 'dst'))
+    payload = bytes.fromhex(last(values['udp.payload']).replace(':', ''))
+    length = int(last(values['udp.length']) or 0)
+    return Datagram(int(values['frame.number']), float(values['frame.time_relative']), link_of(*(values[name] for name in LINK)), source,
+                    int(last(values['udp.srcport'])), destination, int(last(values['udp.dstport'])), payload, length - HEADER if length else None)
 
 
 class Capture:

@@ -23,22 +23,10 @@ PREFIXED = (34, 35)
 class Item:
     """A line: its level, its place, type and length where it has them, its name, its words as a table, and the items below it."""
 
-    def __init__(self, number, text):
-        self.number = number
-        self.level = len(text) - len(text.lstrip(' '))
-        words = text.split()
-        self.place = self.kind = self.length = None
-        numbers = [common.number(word) for word in words[:3]]
-        if len(words) > 3 and None not in numbers:
-            self.place, self.kind, self.length = numbers
-            words = words[3:]
-        self.name = words[0]
-        self.words = {}
-        for word in words[1:]:
-            key, equals, value = word.partition('=')
-            if not equals or key in self.words:
-                self.fail(f'{word} is no field')
-            self.words[key] = value
+    def __init__(self, number, level, place, kind, length, name, words):
+        self.number, self.level = number, level
+        self.place, self.kind, self.length = place, kind, length
+        self.name, self.words = name, words
         self.below = []
         self.is_padded = False  # whether it is read with a padding that it has not
 
@@ -46,14 +34,53 @@ class Item:
         raise Problem(f'line {self.number}: {text}')
 
 
+def level_of(text):
+    return len(text) - len(text.lstrip(' '))
+
+
+def read_item(number, text, kind):
+    """The item of a line that somebody may have written by hand."""
+    words = text.split()
+    numbers = [common.number(word) for word in words[:3]]
+    if len(words) > 3 and None not in numbers:
+        words = words[3:]
+    else:
+        numbers = [None] * 3
+    item = kind(number, level_of(text), *numbers, words[0], {})
+    for word in words[1:]:
+        key, equals, value = word.partition('=')
+        if not equals or key in item.words:
+            item.fail(f'{word} is no field')
+        item.words[key] = value
+    return item
+
+
 def tree(texts, kind=Item):
     """The items of the lowest level, each with those below it, from numbered lines."""
+    return nested(read_item(number, text.rstrip(), kind) for number, text in texts if text.strip() and not text.lstrip().startswith('#'))
+
+
+def told_item(number, text, start):
+    """The item of a line that `hncp decode` wrote of bytes from a place on; with less work than one of a line by hand."""
+    place, kind, length, name, *words = text.split()
+    fields = dict([word.split('=', 1) for word in words])
+    if len(fields) < len(words):
+        raise ValueError
+    return Item(number, level_of(text) if text[0] == ' ' else 0, int(place) - start, int(kind), int(length), name, fields)
+
+
+def told_tree(texts, start=0):
+    """The items of the lines that `hncp decode` wrote of a list of TLVs, which begins at a place of the bytes."""
+    try:
+        return nested([told_item(number, text, start) for number, text in enumerate(texts, 2)])
+    except ValueError:
+        return tree(enumerate(texts, 2))    # a program that is no hncp wrote them: that tells what is wrong
+
+
+def nested(found):
+    """The items of the lowest level, each with those below it, from the items of all lines."""
     top, open_items = [], []
-    for number, text in texts:
-        words = text.split()
-        if not words or words[0].startswith('#'):
-            continue
-        item = kind(number, text.rstrip())
+    for item in found:
         while open_items and open_items[-1].level >= item.level:
             open_items.pop()
         if open_items:

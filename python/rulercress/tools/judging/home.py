@@ -156,7 +156,7 @@ class Home:
         found = []
         for node in sorted(self.reached & set(self.data)):
             age = self.age(node)
-            for text, valid, preferred in self.data[node].delegated():
+            for text, valid, preferred in self.data[node].delegated:
                 found.append((text, node, valid if valid == ENDLESS else valid - age, preferred if preferred == ENDLESS else preferred - age))
         return found
 

@@ -1,6 +1,4 @@
 """Judges datagrams, however they were come by."""
-import re
-
 from .. import captures, items
 from .home import Home
 from .frames import Frames
@@ -33,13 +31,11 @@ class Judgement:
         if datagram.is_cut:
             self.cut.append(datagram)
             return
-        first, *rest = datagram.lines
-        fault = re.match(r'malformed place=(\d+) why=(\d)$', first)
-        if fault:
-            text = f'place={fault.group(1)} why={fault.group(2)}: {items.MALFORMED[int(fault.group(2))]}'
-            self.find('malformed', datagram, text)
+        found = datagram.items
+        if found is None:
+            place, why = captures.MALFORMED.match(datagram.lines[0]).groups()
+            self.find('malformed', datagram, f'place={place} why={why}: {items.MALFORMED[int(why)]}')
             return
-        found = items.tree(enumerate(rest, 2))
         self.take_refused(datagram, found)
         sender = self.senders.take(datagram, found)
         self.states.take(datagram, found)
@@ -53,9 +49,8 @@ class Judgement:
         for top in found:
             node = top.words.get('node') if top.name == 'node-state' else None
             for item in walk([top]):
-                value = datagram.payload[item.place + HEAD:item.place + HEAD + item.length]
                 if item.name == 'bad':
-                    self.take_bad(datagram, item, value, node)
+                    self.take_bad(datagram, item, datagram.payload[item.place + HEAD:item.place + HEAD + item.length], node)
                 elif 'body' in item.words and item is top:
                     place, why = items.first_fault(bytes.fromhex(item.words['body']))
                     place += item.place + HEAD + items.FIXED[item.kind]
@@ -81,7 +76,7 @@ class Judgement:
         """An External-Connection whose last padding is missing is read as if it stood there: its sender means what it says."""
         if item.kind == EXTERNAL:
             item.name, item.is_padded = 'external', True
-            item.below = items.tree(enumerate(captures.decoded(value + bytes(-len(value) % 4))[1:], 2))
+            item.below = items.told_tree(captures.decoded(value + bytes(-len(value) % 4))[1:])
             for each in walk(item.below):
                 each.place += item.place + HEAD
 

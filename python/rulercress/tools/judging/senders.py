@@ -123,7 +123,10 @@ class Senders:
         self.missed = set()        # the sources of which a keep-alive or more is not there
 
     def of(self, link, address):
-        return self.known.setdefault((link, address), Source())
+        source = self.known.get((link, address))
+        if source is None:
+            source = self.known[link, address] = Source()
+        return source
 
     def senders(self):
         """The endpoints that were heard, each from each of its sources."""

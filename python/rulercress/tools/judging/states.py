@@ -26,7 +26,8 @@ def is_older(one, other):
 def walk(found):
     for item in found:
         yield item
-        yield from walk(item.below)
+        if item.below:
+            yield from walk(item.below)
 
 
 class State:
@@ -76,16 +77,16 @@ class Data:
         named += [words['endpoint'] for name in ('assigned', 'address', 'keep-alive') for words in self.named(name)]
         return {(self.state.node, int(number)) for number in named}
 
+    @functools.cached_property
     def intervals(self):
         """The Keep-Alive Intervals in seconds, by endpoint; the first of an endpoint counts."""
         return {int(words['endpoint']): int(words['interval']) / 1000 for words in reversed(self.named('keep-alive'))}
 
+    @functools.cached_property
     def delegated(self):
         """The delegated prefixes, each with both lifetimes in seconds."""
-        for external in self.below:
-            for item in external.below if external.name == 'external' else []:
-                if item.name == 'delegated':
-                    yield item.words['prefix'], int(item.words['valid']), int(item.words['preferred'])
+        return [(item.words['prefix'], int(item.words['valid']), int(item.words['preferred']))
+                for external in self.below if external.name == 'external' for item in external.below if item.name == 'delegated']
 
 
 class Answer:
@@ -132,27 +133,28 @@ class States:
 
     def take(self, datagram, found):
         states = [State(datagram, item) for item in found if item.name == 'node-state']
+        post = self.senders.of(datagram.link, datagram.source).post if states else None
         for state in states:
             if state.age * 1000 >= OLDEST:
                 self.find('too-old', state, f'the age is {state.age:.3f} s; from {OLDEST / 1000:.3f} s on the data no longer count')
             else:
-                self.take_state(datagram, state)
+                self.take_state(datagram, state, post)
         if not is_multicast(datagram.destination):
             digests = [item.words['hash'] for item in found if item.name == 'network-state']
             self.take_answer(datagram, digests[-1:], states)
 
-    def take_state(self, datagram, state):
-        self.take_number(datagram, state)
+    def take_state(self, datagram, state, post):
+        self.take_number(datagram, state, post)
         self.take_hash(state)
         if state.octets:
             self.take_data(datagram, state)
         self.take_age(state)
         self.take_lifetimes(state)
 
-    def take_number(self, datagram, state):
+    def take_number(self, datagram, state, post):
+        """What the number says, in a datagram of the endpoint `post`."""
         key = datagram.link, datagram.source, state.node
         before, since = self.shown.get(key, (None, None))
-        post = self.senders.of(datagram.link, datagram.source).post
         is_own = post is not None and post[0] == state.node
         falls = before is not None and is_older(state.number, before)
         if falls and state.moment - since > self.senders.slack:
@@ -164,7 +166,7 @@ class States:
         if latest is None or is_own or not is_older(state.number, latest.number):
             self.latest[state.node] = state
             if state.key in self.data:
-                self.senders.intervals[state.node] = self.data[state.key].intervals()
+                self.senders.intervals[state.node] = self.data[state.key].intervals
 
     def take_hash(self, state):
         known = self.hashes.setdefault((state.node, state.number), {})
@@ -193,7 +195,7 @@ class States:
         elif state.key not in self.data and 'body' not in state.item.words:
             data = self.data[state.key] = Data(state)
             self.posts |= data.posts()
-            self.senders.intervals[state.node] = data.intervals()
+            self.senders.intervals[state.node] = data.intervals
         if 'body' not in state.item.words:
             self.take_items(datagram, state)
 
@@ -269,7 +271,7 @@ class States:
     def take_lifetimes(self, state):
         """Lifetimes count from the origination of the data: a state without the data tells their age too."""
         known = self.data.get(state.key)
-        for prefix, valid, _ in known.delegated() if known else []:
+        for prefix, valid, _ in known.delegated if known else []:
             left = valid - state.age
             if valid != ENDLESS and left <= -FLOODING:
                 text = f'{shown(prefix)} was valid for {valid} s, and number {state.number} is {state.age:.3f} s old: it ended {-left:.3f} s ago'

@@ -22,7 +22,7 @@ def milliseconds(seconds: float) -> int:
 
 
 class Change(NamedTuple):
-    """A line of `tools/timeline`: the moment in seconds, of whom, and what changed."""
+    """A line of the command timeline: the moment in seconds, of whom, and what changed."""
     moment: float
     whom: str
     what: str
@@ -65,7 +65,7 @@ class Home:
             file.write(self.script)
 
     def timeline(self, path: Union[str, 'os.PathLike[str]']) -> List[Change]:
-        """Writes the page of `tools/timeline` to a file, and gives what changed when. It plays the home some times."""
+        """Writes the page of the command timeline to a file, and gives what changed when. It plays the home some times."""
         from .commands import timeline      # it takes a while to load, and few homes need it
         told = timeline.told_of(self.play.lines)
         timeline.write_page(told, path, 'home.script')

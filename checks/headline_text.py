@@ -31,7 +31,7 @@ SAMPLE = 'two_routers_share_a_prefix'
 
 BEGINNING = '''# The headline in one reading
 
-For a reader who knows HNCP and doubts the claim. Up to "The others" the page takes about half an hour, more than half of it for Sound, Settled and Quiet. What stands behind may wait. `checks/headline --write` copies clauses and definitions from the sources. The prose explains them, and is not proved.
+For a reader who knows HNCP and doubts the claim. Up to "The others" the page takes about half an hour, half of it for Sound, Settled and Quiet. What stands behind may wait. `checks/headline --write` copies clauses and definitions from the sources. The prose explains them, and is not proved.
 
 ## What is claimed
 
@@ -49,10 +49,10 @@ Both are said of the home at the end of the play, `result.world`, and of each ea
 | world | The whole home at one moment: routers, links, datagrams under way |
 | trace | All events so far, as the script and its seed brought them: deliveries, losses, repeats, forged datagrams, restarts, changes of links, and ticks, at which one router looks at its timers |
 | set of a router | The running routers that it reaches over peers (RFC 7787, section 4.6), itself too |
-| used | A router uses a delegated prefix d if it sees d announced, the valid lifetime has not ended, d has at most 64 bits, and d is inside no other such prefix. Of more than 32 it uses the first 32 |
+| used | A router uses a delegated prefix d if it sees d announced, the valid lifetime has not ended, d has at most 64 bits, and d is inside no other such prefix. Of more than 32 it uses the first 32, in the order of addresses |
 | not wanted | A used d whose preferred lifetime has ended, while that of another used one has not |
-| post | What a router asks prefixes for: an endpoint, or its private link, where no other router is (RFC 7695, section 2). The private link counts as endpoint 0 |
-| assignment | The prefix that a router has for a post and a used d. The router publishes it in its node data, or adopted it from another one on the link |
+| post | What a router asks prefixes for: an endpoint, or its private link, where no other router is (RFC 7695, section 2). The private link counts as endpoint 0. A router has one only if the script gives it one, with a line `private` |
+| assignment | The prefix that a router has for a post and a used d. The router publishes it in its node data, or follows another one on the link, which publishes it |
 
 - **Settled**: each identifier that the router reaches is that of exactly one running router. All of its set reach the same, hold each other's node data as these now are, use the same delegated prefixes, and want the same of these. Two endpoints of the set name each other as peers if and only if they are on one link. No other running router is on a link of the set.
 - **Quiet**: none of the set would make, change or destroy an assignment.
@@ -66,7 +66,7 @@ Both are said of the home at the end of the play, `result.world`, and of each ea
 - IPv4: RFC 7788 writes an IPv4 prefix as one of 96 bits or more, and no d of more than 64 bits is used.
 - Delegated prefixes past the first 32; two endpoints of one router on one link, which no script can have; and [what the model leaves out](MODEL.md#what-is-left-out).
 
-**What would refute it:** a script after which two routers have equal hashes, other node data, and no collision. Or one after which `audit A` says `settled=yes quiet=yes`, and lines `prefix` of its set show prefixes of two links that overlap, or two prefixes for one link and one d. `tools/judge` looks for these in a capture of the play (`tools/capture`).
+**What would refute it:** a script after which two routers have equal hashes, other node data, and no collision. Or one after which `audit A` says `settled=yes quiet=yes`, and lines `prefix` of its set show what is not sound: prefixes of two links that overlap; two prefixes for one link and one d, or none on some of its posts; no publisher, or two. `tools/judge` looks for these in a capture of the play (`tools/capture`).
 
 **What must be trusted:** the toolchain that checked the proofs and made the program, and that the definitions mean what the RFCs mean ([ASSURANCE](ASSURANCE.md#what-is-trusted)).
 
@@ -78,7 +78,7 @@ SAMPLE_SAYS = '''| Text | Says |
 |---|---|
 | `external A .. 7200 3600` | A has an uplink with this delegated prefix, valid and preferred for so many seconds |
 | `run 20000 100` | the clock goes on to 20,000 ms, in steps of 100 ms |
-| `net=same ids=same` | equal hashes and node data; and equal node identifiers, which are not hashed |
+| `net=same ids=same` | equal hashes, sequence numbers and node data; and equal node identifiers, which are not hashed. A collision would show as `net=collide` |
 | `ep=1 in=.. is=..` | the post, d, and the prefix that is assigned |
 | `published=2`, `published=no` | this router publishes it, with priority 2; another one does |
 | `applied=yes` | hosts may be told of it |
@@ -100,7 +100,7 @@ FIELDS = (
     Field('assignment `c`', 'hn_assign/src/assigned.rt: Assigned', 'delegated endpoint prefix published',
           'd; the post; the prefix that is assigned; the priority with which it is published, or `None`'),
     Field('advertised `a`', 'hn_assign/src/assigned.rt: Advertised', 'prefix key',
-          'the prefix; its priority, node and endpoint. Keys are compared in this order, and the greater one wins (RFC 7695, section 4.1)'),
+          'the prefix; its priority, node and endpoint. Keys are compared in this order, and the greater one wins (RFC 7695, section 4.1; RFC 7788, section 6.3.1)'),
 )
 """The fields that the definitions of the first part use."""
 
@@ -109,7 +109,7 @@ DEFINITIONS = '''Each has a sentence before it. What it names is put in words af
 FIRST = (
     Part('''### At each moment
 
-`Always P w`: wherever the trace of `w` is cut into a past and a future, the past leads to a world `then`, and `P` holds of it. By law a trace leads to at most one world: `hn_world/src/law.rt: at_most_one_world`. So `then` is the world of that moment, and `w` itself where no future is left.''', (
+`Always P w`: wherever the trace of `w` is cut into a past and a future, the past leads to a world `then`, and `P` holds of it. By law a trace leads to at most one world: `hn_world/src/law.rt: at_most_one_world`. So `then` is the world of that moment. Where no future is left it is `result.world` itself: that its own trace leads to it is the clause `replayed` of `run`.''', (
         'hn_world/specs/Replay.antt: Always',)),
     Part('''### Claim 1: equal hashes
 
@@ -141,7 +141,7 @@ A router is quiet if each of its set rests.''', (
 
 A router rests if each assignment is for a used d and a post (`pairs`), and each post and used d is in one of three cases (`each`). It has an assignment that stays ahead; it has one that stays behind; or it goes without, and has no rival. No router has two assignments for one post and d.''', (
         'hn_plain/specs/Plain.antt: Rests',)),
-    Part('''Ahead: it is published and valid, and its key is above that of the best rival, if there is one. Behind: it is not published, and has the best rival's prefix (RFC 7695 calls it adopted). Validity is asked of the router that publishes that prefix, which rests too.''', (
+    Part('''Ahead: it is published and valid, and its key is above that of the best rival, if there is one. Behind: it is not published, and has the best rival's prefix. A router publishes with priority 2.''', (
         'hn_plain/specs/Plain.antt: StaysAhead', 'hn_plain/specs/Plain.antt: StaysBehind')),
 )
 """The definitions of the first part, in its order."""

@@ -24,7 +24,7 @@ use Rattle.hn_rules.specs.Rules.{IsSole, begun_at, words_taken}
 use Rattle.hn_rules.specs.Tick.{IsExpiry, forgetting}
 use Rattle.hn_rules.specs.Ticks.{IsLosing, IsTick}
 use Rattle.hn_kept.specs.declared.preferred.Preferred.{Preferred}
-use Rattle.hn_kept.specs.Anew.{IsTurnOfPair, view_after, words_before}
+use Rattle.hn_kept.specs.Anew.{IsTurnInTick, view_after, words_before}
 use Rattle.hn_kept.proofs.HeldInTick.{losing_holds, refresh_holds, ports_hold, refresh_takes, ports_take}
 use Rattle.hn_kept.proofs.StepsOfPairs.{steps_split, steps_take, steps_ascend}
 
@@ -75,7 +75,7 @@ words_are all settled mid ran lost before words behind more more_after a b c d =
 
 -- The assignment of prefixes went through the turn: there the pair had its step, and those after it had theirs; what is left has
 -- marks of application.
-record RanThrough (now : ℕ) (s : State) (f : Preferred) (turn : IsTurnOfPair now s f) (ran : Ran) : Type 0 where
+record RanThrough (now : ℕ) (s : State) (f : Preferred) (turn : IsTurnInTick now s f) (ran : Ran) : Type 0 where
   pub words : List ℕ
   pub next : Ran
   pub step : IsPairStep (view_after turn.lost) turn.wish words turn.before next
@@ -86,7 +86,7 @@ record RanThrough (now : ℕ) (s : State) (f : Preferred) (turn : IsTurnOfPair n
   pub took : ran.words ≡ turn.before.words ++ (words ++ rest)
 
 -- a tick did so
-pub record WentThrough (now : ℕ) (s : State) (f : Preferred) (turn : IsTurnOfPair now s f) (end : Running) : Type 0 where
+pub record WentThrough (now : ℕ) (s : State) (f : Preferred) (turn : IsTurnInTick now s f) (end : Running) : Type 0 where
   pub words : List ℕ
   pub next : Ran
   pub step : IsPairStep (view_after turn.lost) turn.wish words turn.before next
@@ -96,7 +96,7 @@ pub record WentThrough (now : ℕ) (s : State) (f : Preferred) (turn : IsTurnOfP
   pub rest : List ℕ
   pub took : end.done.words ≡ words_before turn ++ (words ++ rest)
 
-module _ (laws : TurnLaws) (now : ℕ) (s : State) (f : Preferred) (turn : IsTurnOfPair now s f) where
+module _ (laws : TurnLaws) (now : ℕ) (s : State) (f : Preferred) (turn : IsTurnInTick now s f) where
   -- where it assigns
   pub lists_ascend : IsAscending assigned_pair turn.before.held.assigned × IsAscending backoff_pair turn.before.held.backoffs
   lists_ascend = steps_ascend (view_after turn.lost) turn.earlier turn.begun turn.before turn.steps turn.is_begun.assigned.ascending turn.is_begun.backoffs.ascending

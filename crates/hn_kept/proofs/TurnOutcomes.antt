@@ -21,7 +21,7 @@ use Rattle.hn_rules.specs.Ticks.{IsTick}
 use Rattle.hn_router.specs.Act.{Tick, Happened, IsEvent}
 use Rattle.rand_chacha.specs.ChaCha.{ChaCha}
 use Rattle.hn_kept.specs.declared.preferred.Preferred.{Preferred}
-use Rattle.hn_kept.specs.Anew.{preferred_pair, IsTurnOfPair, view_after, words_before, IsMadeAnew, scene_in, place_in}
+use Rattle.hn_kept.specs.Anew.{preferred_pair, IsTurnInTick, view_after, words_before, IsMadeAnew, scene_in, place_in}
 use Rattle.hn_kept.specs.Laws.{IsOfScene}
 use Rattle.hn_kept.specs.Preferred.{word_of}
 use Rattle.hn_kept.specs.Words.{listed_word}
@@ -91,7 +91,7 @@ marked_new now f p =
     let none : now - now ≡ 0 = omega arith in
     ap (λ (n : ℕ). if nat_le 10000 n then record (given now f p) { applied = true } else given now f p) none
 
-module _ (laws : TurnLaws) (now : ℕ) (s : State) (f : Preferred) (turn : IsTurnOfPair now s f) where
+module _ (laws : TurnLaws) (now : ℕ) (s : State) (f : Preferred) (turn : IsTurnInTick now s f) where
   pairs_ascend : IsAscending wish_pair (turn.wish ∷ turn.later)
   pairs_ascend = back_ascends turn.earlier (turn.wish ∷ turn.later) turn.are_asked.ascending
 

@@ -30,7 +30,7 @@ view_after lost = seen_by (forgetting lost).state
 
 -- In a tick the turn of a pair comes: silent peers, ended delegated prefixes and lost nodes went, and then the pairs before this
 -- one had their turns, in the order of the wishes (RFC 7695, section 4.1).
-pub record IsTurnOfPair (now : ℕ) (s : State) (f : Preferred) : Type 0 where
+pub record IsTurnInTick (now : ℕ) (s : State) (f : Preferred) : Type 0 where
   pub lost : Running
   pub is_lost : IsLosing (begun_at now s) lost
   pub usable : List Delegated
@@ -46,12 +46,12 @@ pub record IsTurnOfPair (now : ℕ) (s : State) (f : Preferred) : Type 0 where
   pub steps : AreSteps (view_after lost) earlier begun before
 
 -- the words that the tick took before the turn
-abbrev pub words_before : {now : ℕ} {s : State} {f : Preferred} → IsTurnOfPair now s f → List ℕ
+abbrev pub words_before : {now : ℕ} {s : State} {f : Preferred} → IsTurnInTick now s f → List ℕ
 words_before turn = turn.lost.done.words ++ turn.before.words
 
 -- In its turn the pair has no assignment, and the rules make one and publish it; it takes the next of the words of the tick.
 pub record IsMadeAnew (now : ℕ) (s : State) (words : List ℕ) (f : Preferred) : Type 0 where
-  pub turn : IsTurnOfPair now s f
+  pub turn : IsTurnInTick now s f
   pub word : ℕ
   pub after : Ran
   pub step : IsPairStep (view_after turn.lost) turn.wish (word ∷ []) turn.before after

@@ -16,6 +16,7 @@ text_of_part (part.Name name) = name_text name
 text_of_part (part.Node node) = id_text node.0
 text_of_part (part.Endpoint e) = decimal e.0
 text_of_part (part.Number n) = decimal n
+text_of_part (part.Moment moment) = decimal moment
 text_of_part (part.Prefix prefix) = prefix_text_of prefix
 text_of_part (part.Link link) = name_or_dash link.name
 

@@ -7,4 +7,6 @@ mod unquiet;
 mod unsettled;
 mod why;
 
+pub use link::LinkName;
+pub use part::{Part, say};
 pub use why::why_text;

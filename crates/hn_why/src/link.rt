@@ -4,7 +4,7 @@ use std::fmt;
 
 /// What a link is called: its name, `-` where there is none.
 #[derive(Clone, Copy)]
-pub(crate) struct LinkName {
+pub struct LinkName {
     name: Option<Name>,
 }
 

@@ -4,18 +4,19 @@ ghost use Rattle.std.specs.Prelude.{◌≡◌, ◌++◌, OnOk, string_bytes};
 ghost use Rattle.hn_why.specs.Parts.{filled, filled_in};
 
 use crate::link::LinkName;
-use hn_base::{EpId, Name, NodeId};
+use hn_base::{EpId, Moment, Name, NodeId};
 use hn_prefix::Prefix;
 use std::alloc::AllocError;
 use std::fmt;
 
 /// A part of what is said.
 #[derive(Clone, Copy)]
-pub(crate) enum Part {
+pub enum Part {
     Name(Name),
     Node(NodeId),
     Endpoint(EpId),
     Number(u32),
+    Moment(Moment),
     Prefix(Prefix),
     Link(LinkName),
 }
@@ -32,6 +33,7 @@ impl fmt::Display for Part {
             Part::Node(node) => write!(f, "{node}"),
             Part::Endpoint(endpoint) => write!(f, "{}", endpoint.0),
             Part::Number(number) => write!(f, "{number}"),
+            Part::Moment(moment) => write!(f, "{moment}"),
             Part::Prefix(prefix) => write!(f, "{}", prefix.text()),
             Part::Link(link) => write!(f, "{link}"),
         }
@@ -51,7 +53,11 @@ fn push_filled(text: &mut String, byte: u8, parts: &[Part]) -> Result<(), AllocE
 }
 
 /// Adds what a template of ASCII says with these parts.
-pub(crate) fn say(text: &mut String, template: &str, parts: &[Part]) -> Result<(), AllocError>
+///
+/// # Errors
+///
+/// Out of memory.
+pub fn say(text: &mut String, template: &str, parts: &[Part]) -> Result<(), AllocError>
     ensures { OnOk result (string_bytes text.new ≡ string_bytes text.old ++ filled_in parts.now template.now) }
 {
     for byte in template.as_bytes() {

@@ -1,0 +1,4 @@
+mod CalmHomes
+mod CalmTexts
+mod LastHomes
+mod Searching

@@ -1,0 +1,9 @@
+use Rattle.hn_base.proofs.Names.{◌≡◌, All, None, take}
+use Rattle.hn_calm.specs.Home.{FindsEnded}
+use Rattle.hn_calm.proofs.ended.first_ended.Given as goal
+
+abbrev pub invariant-loop-m : goal.invariant-loop-m
+invariant-loop-m l = record {
+  all : l.m-items ≡ l.world.members;
+  so_far : All (λ one. FindsEnded l.world.moment one None) (take l.m-index l.m-items);
+}

@@ -20,6 +20,8 @@ UNITTEST = ['-m', 'unittest', 'discover', '-t', '.', '-s', 'tests']
 DRIVEN = ['-m', 'tests.driven', '-n', '20', '--from', '1001']
 ABOUT = 'import sys; print("%d.%d.%d" % sys.version_info[:3])'
 CALLS = 'import test_a_home as t; [getattr(t, name)() for name in dir(t) if name.startswith("test_")]'
+DATA = os.path.join(TOP, 'crates', 'transcripts', 'data')
+FOUND = 3                                                # the status of judge with findings
 FOREIGN = ('PYTHONPATH', 'PYTHONHOME', 'PYTHONSTARTUP')  # what an environment of its own must not see
 
 
@@ -99,22 +101,38 @@ def check_tests(known):
     return f'20 homes driven by hand, {counted[1] or counted[2]} tests by {"pytest" if python else "unittest, since there is no pytest"}'
 
 
+def check_commands(rulercress, folder):
+    """The command that pip made, outside of a clone: it finds the page of the codes and that of timeline, and judges a capture."""
+    script, capture, page = os.path.join(DATA, 'a_lossy_home.script'), os.path.join(folder, 'home.pcap'), os.path.join(folder, 'home.html')
+    must(output([rulercress, 'judge', '--help'], folder).startswith('usage: rulercress judge '), 'rulercress judge --help is no usage')
+    must_be(output([rulercress, 'explain', '5', '8'], folder).splitlines()[:1], lines_of('explain', '5', '8')[:1], 'rulercress explain')
+    must_be(output([rulercress, 'timeline', '--html', page, script], folder).splitlines(), lines_of('timeline', script), 'rulercress timeline')
+    must(os.path.getsize(page) > os.path.getsize(script), 'rulercress timeline writes no page')
+    frames = output([rulercress, 'capture', script, capture], folder).split()[0]
+    if shutil.which('tshark'):
+        status, text = started([rulercress, 'judge', capture], folder)
+        must(status in (0, FOUND) and text.startswith(f'capture datagrams={frames} '), f'rulercress judge: status {status}: {text[:120]}')
+
+
 def check_installed(python, folder):
     """pip installs the package from its folder alone into an environment that has nothing but pip. There each test of the
     example passes; and by pytest, which takes the package from that environment, where this Python has one."""
-    place, source = os.path.join(folder, 'environment'), os.path.join(folder, 'source')
-    for old in (place, source):
+    place, clone = os.path.join(folder, 'environment'), os.path.join(folder, 'clone')
+    for old in (place, clone):
         shutil.rmtree(old, ignore_errors=True)
-    shutil.copytree(FOLDER, source, ignore=shutil.ignore_patterns('__pycache__'))
+    source = shutil.copytree(FOLDER, os.path.join(clone, 'python'), ignore=shutil.ignore_patterns('__pycache__'))
+    os.mkdir(os.path.join(clone, 'docs'))
+    shutil.copy(os.path.join(TOP, 'docs', 'FORMATS.md'), os.path.join(clone, 'docs'))
     shutil.copy(EXAMPLE, folder)
     output([python, '-m', 'venv', place], folder)
     inside = os.path.join(place, 'bin', 'python')
     must(not has(inside, 'rulercress'), f'{python}: the package is there before it is installed')
     output([inside, '-m', 'pip', 'install', '--quiet', '--no-index', '--no-build-isolation', source], folder)
-    shutil.rmtree(source)
+    shutil.rmtree(clone)
     at = output([inside, '-c', 'import rulercress; print(rulercress.__file__)'], folder)
     must(at.startswith(place + os.sep), f'{python}: what is imported is {at}')
     output([inside, '-c', CALLS], folder)
+    check_commands(os.path.join(place, 'bin', 'rulercress'), folder)
     if has(python, 'pytest'):
         output([python, *PYTEST, os.path.join(folder, 'test_a_home.py')], folder, PYTHONPATH=os.path.dirname(os.path.dirname(at)))
         return ', by pytest too'
@@ -122,7 +140,7 @@ def check_installed(python, folder):
 
 
 def check_python(folder):
-    """Held to: the texts are as above; the tests pass; the script that a home leaves is played to its transcript; and each Python installs the package, and passes the example's tests."""
+    """Held to: the texts are as above; the tests pass; the script that a home leaves is played to its transcript; and each Python installs the package, passes the example's tests, and has the command rulercress."""
     need_look()
     texts, codes, known = check_texts(), check_tables(), pythons()
     told = [f'{texts} files for Python 3.9, {codes} codes, {check_tests(known)}']

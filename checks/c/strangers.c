@@ -2,42 +2,11 @@
  * again. No advertisement is longer for that than 1,232 bytes; the default route is renewed by each; each prefix that departs is
  * told within 11 of them, and for two hours at most; and a prefix of the router's own uplink reaches the host. */
 #include "advert.h"
-#include "md5.h"
+#include "tlv.h"
 
-enum { SETS = 3, PREFIXES = 32, KEPT = 64, TURNS = 11, SECOND = 1000, MOST_DATA = 2048 };
-
-/* Types of TLVs (RFC 7787, section 7; RFC 7788, section 10). */
-enum { NODE_ENDPOINT = 3, NODE_STATE = 5, PEER = 8, VERSION = 32, EXTERNAL = 33, DELEGATED = 34 };
+enum { SETS = 3, PREFIXES = 32, KEPT = 64, TURNS = 11, SECOND = 1000 };
 
 static const uint32_t own_node = 1, stranger = 9;
-
-/* A list of TLVs that grows. */
-struct bytes {
-    uint8_t at[MOST_DATA];
-    size_t count;
-};
-
-static void put(struct bytes *to, const void *from, size_t count)
-{
-    CHECK(to->count + count <= MOST_DATA);
-    memcpy(to->at + to->count, from, count);
-    to->count += count;
-}
-
-static void put_number(struct bytes *to, uint32_t number)
-{
-    const uint8_t four[4] = {(uint8_t)(number >> 24), (uint8_t)(number >> 16), (uint8_t)(number >> 8), (uint8_t)number};
-    put(to, four, 4);
-}
-
-/* A TLV: type, length, value, and zeros up to the next multiple of four. */
-static void put_tlv(struct bytes *to, uint16_t type, const struct bytes *value)
-{
-    static const uint8_t zeros[3];
-    put_number(to, (uint32_t)type << 16 | (uint32_t)value->count);
-    put(to, value->at, value->count);
-    put(to, zeros, (4 - value->count % 4) % 4);
-}
 
 /* The six bytes that the prefixes of a set begin with. */
 static void front_of(uint8_t front[6], int set, int place)
@@ -63,34 +32,19 @@ static void put_external(struct bytes *to, int set, int place)
 /* The stranger's node data: its peer is the router, and it delegates a set of prefixes. */
 static void node_data(struct bytes *to, int set)
 {
-    struct bytes peer = {.count = 0}, version = {.count = 0};
-    put_number(&peer, own_node);
-    put_number(&peer, LINK);
-    put_number(&peer, LINK);
-    put_tlv(to, PEER, &peer);
-    put_number(&version, 0);
-    put(&version, "evil", 4);
-    put_tlv(to, VERSION, &version);
+    put_peer(to, own_node, LINK, LINK);
+    put_version(to);
     for (int place = 0; place < PREFIXES; place++)
         put_external(to, set, place);
 }
 
-/* Its datagram: who sends it, and its state, with its data and their hash. */
+/* Its datagram. */
 static void datagram(struct bytes *to, int set)
 {
-    struct bytes sender = {.count = 0}, state = {.count = 0}, data = {.count = 0};
-    uint8_t hash[8];
+    static struct bytes data;
+    data.count = 0;
     node_data(&data, set);
-    md5_front(data.at, data.count, hash);
-    put_number(&sender, stranger);
-    put_number(&sender, LINK);
-    put_tlv(to, NODE_ENDPOINT, &sender);
-    put_number(&state, stranger);
-    put_number(&state, (uint32_t)set + 1);
-    put_number(&state, 0);
-    put(&state, hash, 8);
-    put(&state, data.at, data.count);
-    put_tlv(to, NODE_STATE, &state);
+    put_state(to, stranger, stranger, (uint32_t)set + 1, &data);
 }
 
 static uint64_t now;

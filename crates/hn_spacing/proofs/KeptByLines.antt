@@ -97,7 +97,7 @@ module _ (Holds : Stage → Type 0) (MayBe : Line → Type 0) (invariant : IsInv
 
   follows : (event : WEvent) → Keeps Holds (Follows event)
   follows (event.Tick name) = invariant.turns name
-  follows (event.Detach name e) = sets (ended_sending name e) (invariant.ending name e)
+  follows (event.Detach name e) = sets (ended_sending name e) (invariant.ended_sending name e)
   follows (event.Stop name) = sets (ending_all name) (invariant.ending_all name)
   follows (event.Start name) = sets (ending_all name) (invariant.ending_all name)
   follows _ = keeps_nothing Holds

@@ -204,7 +204,7 @@ module _ (name : Name) (e : EpId) (MayBegin : Type 0) (Fact : Option PlainSender
     tells = λ lines others. keeps_tells lines (others_of_kind name e lines others);
     turns = keeps_turns small;
     solicits = keeps_solicits;
-    ending = λ other f p holds. out_or_not p.senders _ p.text (without_one name e other f p.senders) holds;
+    ended_sending = λ other f p holds. out_or_not p.senders _ p.text (without_one name e other f p.senders) holds;
     ending_all = λ other p holds. out_or_not p.senders _ p.text (without_all name e other p.senders) holds;
     starting = begin_at;
   }

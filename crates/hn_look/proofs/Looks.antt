@@ -1,10 +1,11 @@
 -- What a look comes to.
 use Rattle.hn_base.proofs.Names.{◌≡◌, ◌≢◌, ◌⊎◌, ℕ, zero, suc, List, [], ◌∷◌, ◌++◌, Option, None, Some, Result, Ok, Err, inl, inr, refl, sym, ap, subst, lit<, arith, IfOk, Appends}
-use Rattle.hn_look.proofs.Names.{append-nil, IoFault, Failed, NoMemory, PiecesAppend, AppendsPart, IsTableText, IsWhy, Member, Parts, EndsRefused, Says, SeesTable, SeesWhy}
+use Rattle.hn_look.proofs.Names.{append-nil, IoFault, Failed, NoMemory, PiecesAppend, AppendsPart, IsTableText, IsWhy, Member, Parts, EndsRefused, Says, SeesCalm, SeesTable, SeesWhy}
 use Rattle.std.specs.Prelude.{Contains}
+use Rattle.hn_calm.specs.Text.{IsCalmText}
 use Rattle.hn_world.specs.Names.{member_named}
 use Rattle.hn_world.specs.Asked.{of_router, unless_running}
-use Rattle.hn_look.specs.Look.{SeesOf, IsRefusedLook, IsLook, Writes, Looked, TableOf, WhyUnless, looked_status}
+use Rattle.hn_look.specs.Look.{SeesOf, IsRefusedLook, IsLook, Writes, Looked, TableOf, WhyUnless, CalmUnless, looked_status}
 use Rattle.hn_look.proofs.Streams.{AppendsCut-more, Appends-none, part_is_cut}
 
 -- a text that is of one kind is of another
@@ -59,6 +60,11 @@ pub why_said : (name : List ℕ) (w : Parts) (text more : List ℕ) (status : �
     → SeesWhy name w status more
 why_said name w text more status runs holds said =
     subst (λ (o : Option ℕ). WhyUnless o name w status more) (sym runs) (said.0, subst (IsWhy name w) (sym said.1) holds)
+
+pub calm_said : (name : List ℕ) (w : Parts) (text more : List ℕ) (status : ℕ) → of_router unless_running (member_named name w) ≡ None → IsCalmText name w text → Says text status more
+    → SeesCalm name w status more
+calm_said name w text more status runs holds said =
+    subst (λ (o : Option ℕ). CalmUnless o name w status more) (sym runs) (said.0, subst (IsCalmText name w) (sym said.1) holds)
 
 -- ---- statuses
 

@@ -7,6 +7,7 @@ use Rattle.hn_lab.specs.Lab.{IsLabRun}
 use Rattle.hn_streams.specs.Refusal.{refused_line}
 use Rattle.hn_lab.specs.Stage.{Mail}
 use Rattle.hn_base.specs.Name.{name_text}
+use Rattle.hn_calm.specs.Text.{IsCalmText}
 use Rattle.hn_table.specs.Table.{IsTableText}
 use Rattle.hn_why.specs.Why.{IsWhy}
 use Rattle.hn_world.specs.Names.{member_named}
@@ -14,7 +15,7 @@ use Rattle.hn_world.specs.Asked.{of_router, unless_running}
 use Rattle.hn_world.specs.declared.member.Member.{Member}
 use Rattle.hn_world.specs.declared.parts.Parts.{Parts}
 use Rattle.hn_look.specs.declared.words.Form.{Form}
-use Rattle.hn_look.specs.declared.words.Form.TheVariants.{Log, Table, Why}
+use Rattle.hn_look.specs.declared.words.Form.TheVariants.{Calm, Log, Table, Why}
 use Rattle.hn_look.specs.Log.{IsLog}
 use Rattle.hn_streams.specs.Output.{AppendsCut}
 
@@ -46,11 +47,20 @@ WhyUnless (Some code) name w status text = Refuses code status text
 abbrev pub SeesWhy : List ℕ → Parts → ℕ → List ℕ → Type 0
 SeesWhy name w status text = WhyUnless (of_router unless_running (member_named name w)) name w status text
 
+-- `calm`: whether the home of the router of the name is calm, and until when it lasts; there is a code where none of the name runs
+abbrev pub CalmUnless : Option ℕ → List ℕ → Parts → ℕ → List ℕ → Type 0
+CalmUnless None name w status text = (status ≡ 0) × IsCalmText name w text
+CalmUnless (Some code) name w status text = Refuses code status text
+
+abbrev pub SeesCalm : List ℕ → Parts → ℕ → List ℕ → Type 0
+SeesCalm name w status text = CalmUnless (of_router unless_running (member_named name w)) name w status text
+
 -- in the way of a form
 abbrev pub Sees : Form → Parts → ℕ → List ℕ → Type 0
 Sees Log w status text = SeesLog w status text
 Sees (Table name) w status text = SeesTable (name_text name) w status text
 Sees (Why name) w status text = SeesWhy (name_text name) w status text
+Sees (Calm name) w status text = SeesCalm (name_text name) w status text
 
 -- Whether the memory may end before there is a text of which a part was written: a log is written event by event, and the
 -- others at once.

@@ -6,7 +6,7 @@ ghost use Rattle.hn_look.specs.Look.{Sees, SeesOf, EndsRefused, IsLook, MayStarv
 
 use crate::last_line::refusal_of;
 use crate::log::write_log;
-use crate::named::{write_table, write_why};
+use crate::named::{write_calm, write_table, write_why};
 use crate::status::{DONE, REFUSED};
 use crate::words::Form;
 use hn_io::{IoFault, Sink};
@@ -29,6 +29,7 @@ fn see<K: Sink>(alloc: Global, form: &Form, world: &World, out: &mut K) -> Resul
         }
         Form::Table(name) => write_table(alloc, name, world, out),
         Form::Why(name) => write_why(alloc, name, world, out),
+        Form::Calm(name) => write_calm(alloc, name, world, out),
     }
 }
 

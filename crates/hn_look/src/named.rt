@@ -3,10 +3,11 @@
 ghost use Rattle.std.specs.Prelude.{◌≡◌, ◌⊎◌, ℕ, List, Err, IfOk};
 ghost use Rattle.hn_base.specs.Name.{name_text};
 ghost use Rattle.hn_io.specs.Faults.{IsCaused};
-ghost use Rattle.hn_look.specs.Look.{Refuses, Says, SeesTable, SeesWhy, Looked};
+ghost use Rattle.hn_look.specs.Look.{Refuses, Says, SeesCalm, SeesTable, SeesWhy, Looked};
 
 use crate::status::{DONE, REFUSED};
 use hn_base::Name;
+use hn_calm::calm_text;
 use hn_io::{IoFault, Sink};
 use hn_streams::{write_piece, write_refusal};
 use hn_table::table_text;
@@ -73,6 +74,29 @@ pub(crate) fn write_why<K: Sink>(
         return refuse(alloc, code, out);
     }
     let Ok(text) = why_text(alloc, name, world) else {
+        return Err(IoFault::NoMemory);
+    };
+    say(text.as_str(), out)
+}
+
+/// Writes whether the home of the router of a name is calm, and until when it lasts; and if not, what is missing. Answers
+/// the status.
+pub(crate) fn write_calm<K: Sink>(
+    alloc: Global,
+    name: &Name,
+    world: &World,
+    out: &mut K,
+) -> Result<u8, IoFault>
+    ensures looked { Looked Unit (SeesCalm (name_text name.now) world.now) result (K.held out.old) (K.held out.new) }
+    ensures statuses { IfOk result (λ status. (status ≡ 0) ⊎ (status ≡ 2)) }
+    ensures caused { IsCaused (result ≡ Err IoFault.Failed) (K.faults out.old) (K.faults out.new)
+        (K.never_fails out.old) (K.never_fails out.new) }
+{
+    let refused = world.unless_runs(name);
+    if let Some(code) = refused {
+        return refuse(alloc, code, out);
+    }
+    let Ok(text) = calm_text(alloc, name, world) else {
         return Err(IoFault::NoMemory);
     };
     say(text.as_str(), out)

@@ -2,7 +2,7 @@ ghost use Rattle.std.specs.Prelude.{◌≡◌, ◌≢◌, ◌+◌, ◌^◌, ◌�
 ghost use Rattle.std.specs.Io.KnownBytes.{Consumes};
 ghost use Rattle.hn_io.specs.Faults.{IsCaused};
 ghost use Rattle.hn_look.specs.Form.{IsLookFormOf};
-ghost use Rattle.hn_look.specs.Look.{Sees, SeesLog, SeesTable, SeesWhy, MayStarve, IsLookRun};
+ghost use Rattle.hn_look.specs.Look.{Sees, SeesCalm, SeesLog, SeesTable, SeesWhy, MayStarve, IsLookRun};
 ghost use Rattle.hn_base.specs.Name.{name_text};
 ghost use Rattle.hn_base.specs.declared.name.Name.{Name};
 ghost use Rattle.hn_look.specs.declared.words.Form.{Form};
@@ -40,14 +40,14 @@ fn play_and_look<S: Source, K: Sink>(alloc: Global, form: &Form, src: &mut S, ou
 
 /// Runs the program: `words` are those of the command line, the program's name first. Each form reads a script and plays
 /// it as `hncp lab` does; then it looks at the world that the script led to, up to the line that is refused, if one is.
-/// `log` writes what happened, event by event, `table` what the router of a name holds, and `why` whether it is settled
-/// and quiet, and if not, why.
+/// `log` writes what happened, event by event, `table` what the router of a name holds, `why` whether it is settled and
+/// quiet, and if not, why, and `calm` whether its home is calm and until when it lasts, and if not, what is missing.
 ///
 /// # Errors
 ///
 /// The status says them, and there is none but 0 to 4 and 6. 1 comes if and only if the words ask for no form. 2 comes
-/// exactly if the bytes are no script, a line of the play is refused, the name of `table` or `why` is unknown, or that
-/// of `why` is of a router that is stopped, and neither 3 nor 4 comes. 3 and 4 come if and only if the count of faults
+/// exactly if the bytes are no script, a line of the play is refused, the name of `table`, `why` or `calm` is unknown, or
+/// that of `why` or `calm` is of a router that is stopped, and neither 3 nor 4 comes. 3 and 4 come if and only if the count of faults
 /// of the source or the sink rose in this call. 6 comes out of memory; no clause says when.
 pub fn run<S: Source, K: Sink>(alloc: Global, words: &[String], src: &mut S, out: &mut K) -> u8
     // Bad usage is what no form's words are; then nothing is touched.
@@ -63,6 +63,8 @@ pub fn run<S: Source, K: Sink>(alloc: Global, words: &[String], src: &mut S, out
         → IsLookRun Unit (SeesTable (name_text name)) (S.left src.old) result (K.held out.old) (K.held out.new) }
     ensures why { (name : Name) → IsLookFormOf (Form.Why name) (map string_bytes words.now) → result ≢ SOURCE_FAILED
         → IsLookRun Unit (SeesWhy (name_text name)) (S.left src.old) result (K.held out.old) (K.held out.new) }
+    ensures calm { (name : Name) → IsLookFormOf (Form.Calm name) (map string_bytes words.now) → result ≢ SOURCE_FAILED
+        → IsLookRun Unit (SeesCalm (name_text name)) (S.left src.old) result (K.held out.old) (K.held out.new) }
 
     // Where each status comes from. After 3 nothing was written. Reading ends after 2^24 + 1 bytes.
     ensures statuses { Contains (DONE ∷ BAD_USAGE ∷ REFUSED ∷ SOURCE_FAILED ∷ SINK_FAILED ∷ NO_MEMORY ∷ []) result }

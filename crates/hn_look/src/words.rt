@@ -11,6 +11,9 @@ pub enum Form {
     Table(Name),
     /// `why NAME`: whether the router of that name is settled and quiet, and if not, why.
     Why(Name),
+    /// `calm NAME`: whether the home of the router of that name is calm, and until when it lasts; and if not, what is
+    /// missing.
+    Calm(Name),
 }
 
 impl Form {
@@ -36,6 +39,7 @@ impl Form {
         match word {
             "table" => Some(Form::Table(name)),
             "why" => Some(Form::Why(name)),
+            "calm" => Some(Form::Calm(name)),
             _ => None,
         }
     }

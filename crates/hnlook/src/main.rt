@@ -42,7 +42,8 @@ fn ended(rt: &HostRuntime) -> Ended {
 fn reason(status: u8) -> &'static str {
     match status {
         BAD_USAGE => "hnlook 1.0.0\n\
-             usage: hnlook log < SCRIPT | hnlook why NAME < SCRIPT | hnlook table NAME < SCRIPT",
+             usage: hnlook log < SCRIPT | hnlook why NAME < SCRIPT | hnlook calm NAME < SCRIPT | \
+             hnlook table NAME < SCRIPT",
         REFUSED => "hnlook: the input was refused; the last line of the output says where and why",
         SOURCE_FAILED => "hnlook: standard input failed",
         SINK_FAILED => "hnlook: standard output failed",

@@ -2,8 +2,9 @@
 //! beside it that has its stem:
 //! - a script `STEM.script`, which is played: `STEM.transcript` is wanted;
 //! - a datagram in hexadecimal, `STEM.hex`, which is read: `STEM.transcript` is wanted;
-//! - a home `STEM.home`, which is a script that is looked at: `STEM.log`, `STEM.why-NAME` and `STEM.table-NAME` are
-//!   wanted, as `hnlook log`, `hnlook why NAME` and `hnlook table NAME` write them.
+//! - a home `STEM.home`, which is a script that is looked at: `STEM.log`, `STEM.why-NAME`, `STEM.calm-NAME` and
+//!   `STEM.table-NAME` are wanted, as `hnlook log`, `hnlook why NAME`, `hnlook calm NAME` and `hnlook table NAME` write
+//!   them.
 //!
 //! A line is written for each script, each datagram and each look, with its status.
 #![tactic(auto)]
@@ -141,7 +142,10 @@ fn of_look(rt: &HostRuntime, stem: &str, look: &str) -> io::Result<Outcome> {
 
 /// Whether a kind is that of the text of a look.
 fn is_look(kind: &str) -> bool {
-    kind == "log" || kind.starts_with("why-") || kind.starts_with("table-")
+    kind == "log"
+        || kind.starts_with("why-")
+        || kind.starts_with("calm-")
+        || kind.starts_with("table-")
 }
 
 /// What the file of a stem and a kind comes to; `None` if there is nothing to compare.

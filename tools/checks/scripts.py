@@ -270,7 +270,7 @@ KINDS = [
     (b'0g', 'decode', ['text for hncp decode']),
 ]
 # Of refusals of line 0 the page has a sentence each, and no table.
-OF_NO_LINE = {'refused 0 4': 'text for hncp decode', 'refused 0 7': 'hnlook NAME', 'refused 0 12': 'hnlook why NAME'}
+OF_NO_LINE = {'refused 0 4': 'text for hncp decode', 'refused 0 7': 'hnlook NAME', 'refused 0 12': 'hnlook why NAME or hnlook calm NAME'}
 
 
 def check_explain(folder):

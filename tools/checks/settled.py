@@ -273,11 +273,11 @@ def compare_router(said, name, where):
     return f'{says[-1]} cause={one["cause"]}'
 
 
-def compare_refused(said, where):
+def compare_refused(said, where, form='why'):
     """A router that is stopped is refused by code 12, a name that is none by code 7."""
     stopped = [name for name, runs in said.home.running.items() if not runs][:1]
     for name, code in [('nobody', 7)] + [(each, 12) for each in stopped]:
-        lines = common.look(['why', name], said.texts)
+        lines = common.look([form, name], said.texts)
         must(lines == [f'refused 0 {code}'], f'{where}, {name}: {lines}, and not code {code}')
     return len(stopped)
 

@@ -41,7 +41,7 @@ def inputs():
              ('soak', ['hncp', 'soak', '4', '1'], b''), ('node', ['hncp', 'node', '00000001', 'BASE', '3', '1', 'PEER'], b'hncp 1\n'),
              ('decode', ['hncp', 'decode'], DATAGRAM.encode()), ('decode', ['hncp', 'decode'], (DATAGRAM * 500).encode()),
              ('watch', ['hncp', 'watch'], (DATAGRAM + '\n').encode()), ('log', ['hnlook', 'log'], HOME)]
-    forms += [(form, ['hnlook', form, 'r1'], HOME) for form in ('why', 'table')]
+    forms += [(form, ['hnlook', form, 'r1'], HOME) for form in ('why', 'calm', 'table')]
     forms.append(('lab', ['hncp', 'lab'], LONG))
     forms.append(('watch', ['hncp', 'watch'], b''.join(b'00050014%08x0000000100000000f0f91d4065458965\n' % node for node in range(3000))))
     return forms

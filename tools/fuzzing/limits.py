@@ -72,7 +72,7 @@ def cases():
         yield Case('lab', ['hncp', 'lab'], data, ''), refused
         yield Case('log', ['hnlook', 'log'], data, ''), refused
         name = 'A' if ONE in data else 'r1'
-        for form in ('why', 'table') if data.startswith(HOMES) else ():
+        for form in ('why', 'calm', 'table') if data.startswith(HOMES) else ():
             yield Case(form, ['hnlook', form, name], data, ''), refused
     for data, refused in captures():
         yield Case('watch', ['hncp', 'watch'], data, ''), refused

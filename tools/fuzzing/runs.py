@@ -16,9 +16,9 @@ from fuzzing import texts
 Case = collections.namedtuple('Case', 'form words data also')
 Result = collections.namedtuple('Result', 'status text messages seconds memory slow')
 
-HNCP, HNLOOK = ('lab', 'udp', 'soak', 'node', 'decode', 'watch', 'words'), ('log', 'why', 'table')
+HNCP, HNLOOK = ('lab', 'udp', 'soak', 'node', 'decode', 'watch', 'words'), ('log', 'why', 'calm', 'table')
 # One case in so many, of each form; a round has as many cases as the numbers have together.
-WEIGHTS = {'lab': 40, 'udp': 4, 'soak': 1, 'node': 4, 'decode': 60, 'watch': 40, 'words': 4, 'log': 12, 'why': 8, 'table': 8}
+WEIGHTS = {'lab': 40, 'udp': 4, 'soak': 1, 'node': 4, 'decode': 60, 'watch': 40, 'words': 4, 'log': 12, 'why': 8, 'calm': 8, 'table': 8}
 STATUSES = {form: {0, 2} for form in WEIGHTS} | {'soak': {0}, 'words': {1}}
 REPORTS = set('show hash used use prefixes prefix elect advert ra audit addressed ulas addresses address ula compare mail note refused'.split())
 TABLE = set('table peer node assigned backoff delegated used data tlvs refused'.split())
@@ -68,7 +68,7 @@ def made(seed, form, place, port):
         words = ['hncp', 'node', f'{chance.randrange(2 ** 32):08x}', str(port), str(chance.randrange(1, 4)), '1', str(port + 2)]
         return Case(form, words, texts.node_file(chance), '')
     data = texts.script(chance)
-    if form in ('why', 'table'):
+    if form in ('why', 'calm', 'table'):
         return Case(form, ['hnlook', form, texts.name(chance, data)], data, also)
     if form == 'log':
         return Case(form, ['hnlook', 'log'], data, also)
@@ -91,7 +91,7 @@ def is_number(word, least, most):
 def asks(program, words):
     """Whether the words ask for a form. What stands after `node` is not looked at, if there is enough of it."""
     if program == 'hnlook':
-        return words == ['log'] or len(words) == 2 and words[0] in ('why', 'table') and texts.is_name(words[1])
+        return words == ['log'] or len(words) == 2 and words[0] in ('why', 'calm', 'table') and texts.is_name(words[1])
     first, rest = words[:1], words[1:]
     if first == ['udp']:
         return len(rest) == 1 and is_number(rest[0], 1024, 65534)
@@ -212,11 +212,11 @@ def text_wrong(form, status, text):
     ends = bool(refused) or form == 'decode' and last.startswith('malformed ')
     if ends != (status == 2):
         wrong.append(f'status {status} after the line "{last[:80]}"')
-    codes = CODES[form] | ({7, 12} if form in ('why', 'table') else set())
+    codes = CODES[form] | ({7, 12} if form in ('why', 'calm', 'table') else set())
     if refused and refused[1] not in codes:
         wrong.append(f'code {refused[1]}')
-    if form == 'why':
-        return wrong + ([] if text.startswith((b'why ', b'refused ')) else ['no line why'])
+    if form in ('why', 'calm'):
+        return wrong + ([] if text.startswith((form.encode() + b' ', b'refused ')) else [f'no line {form}'])
     firsts = {line.split(None, 1)[:1] and line.split(None, 1)[0] for line in text.split(b'\n')[-2000:-1]}
     odd = [word for word in firsts if word and word.decode('latin-1') not in FIRST_WORDS[form]
            and not (form in ('decode', 'log', 'table') and word.isdigit())]

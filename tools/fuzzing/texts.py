@@ -276,5 +276,5 @@ def name(chance, data):
 
 def any_words(chance):
     """Words of a command line, few of which ask for a form."""
-    pool = ['lab', 'udp', 'soak', 'node', 'decode', 'watch', 'log', 'why', 'table', '2', '33', '00000001', '9000', '65534', '', '-h', '--help', 'é']
+    pool = ['lab', 'udp', 'soak', 'node', 'decode', 'watch', 'log', 'why', 'calm', 'table', '2', '33', '00000001', '9000', '65534', '', '-h', '--help', 'é']
     return [chance.choice(pool) if chance.randrange(4) else str(chance.choice(BOUNDS)) for _ in range(chance.randrange(6))]

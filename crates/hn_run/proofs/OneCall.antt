@@ -1,5 +1,5 @@
 -- The words ask for one call of `node`, whose numbers are in range.
-use Rattle.hn_base.proofs.Names.{◌≡◌, ◌≤◌, ◌^◌, ◌-◌, ℕ, List, [], ◌∷◌, take, refl, sym, subst, All, AllZip, All-nil, All-cons}
+use Rattle.hn_base.proofs.Names.{◌≡◌, ◌∙◌, ◌≤◌, ◌^◌, ◌-◌, ℕ, List, [], ◌∷◌, take, refl, sym, subst, All, AllZip, All-nil, All-cons}
 use Rattle.hn_run.proofs.Names.{IsNumberText, IsFormOf, Node, PlainCall}
 use Rattle.hn_forms.specs.Form.{IsNodeCall}
 use Rattle.hn_forms.specs.Node.{IsCall, plain_call}

@@ -27,7 +27,7 @@ VERSIONS = ('hncp 1', 'hncp 2')
 OTHER_VERSION = 'hncp 2'          # with which a script may begin, and a node file may not
 # Refusals of line 0 that no script and no capture has: of what they are, and what they mean.
 OF_NO_LINE = {4: ('the text for hncp decode', 'another byte than hexadecimal digits, spaces and LF, or an odd number of digits'),
-              7: ('hnlook NAME', 'no router of the script has this name'), 12: ('hnlook why NAME', 'the router is stopped')}
+              7: ('hnlook NAME', 'no router of the script has this name'), 12: ('hnlook why NAME or hnlook calm NAME', 'the router is stopped')}
 NODE_FILE = 'the first line is not hncp 1'
 
 

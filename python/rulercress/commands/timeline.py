@@ -1,9 +1,9 @@
 """Says what changed when in the play of a script: routers, links, what hosts hold, and copies that were lost.
 
 Three columns with a tab between: the moment in milliseconds, of whom, and what. The last lines say what it comes to: when the
-home was sound, and how long hosts of a link were without a live prefix, which is one that is preferred and that somebody
-assigns. Reports are put in after each round, in a large home after each second; they change nothing, and where the script's own
-reports come out otherwise nothing is shown.
+home was sound, whether it is calm at the end and until when, and how long hosts of a link were without a live prefix, which is one
+that is preferred and that somebody assigns. Reports are put in after each round, in a large home after each second; they change
+nothing, and where the script's own reports come out otherwise nothing is shown.
 With --html it makes a page, one file without network access, that shows the same as bands over time. It needs hnlook.
 """
 import json

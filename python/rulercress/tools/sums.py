@@ -1,4 +1,6 @@
-"""What a play comes to, in a line each: when the home was sound, and how long hosts were without a prefix."""
+"""What a play comes to, in a line each: when the home was sound, whether it stays as it is, and how long hosts were without a prefix."""
+
+from . import common
 
 SOUND = 'sound=yes'
 
@@ -62,9 +64,17 @@ def told(first, found, word, otherwise):
     return text
 
 
+def calmness(play):
+    """What `hnlook calm` says at the end of a router that runs: until when the home is calm, or why it is not."""
+    running = [name for name, runs in play.home.running.items() if runs]
+    for name in running[:1]:
+        yield 'calm', common.look(['calm', name], [line.text for line in play.lines])[0].split('calm=')[1]
+
+
 def sums(story):
     """The lines: of whom, and what. The links are those whose hosts had a live prefix once."""
     yield 'home', told(*spells(soundness(story.play), story.end()), 'sound', 'not')
+    yield from calmness(story.play)
     for link, lanes in story.lanes.items():
         states = list(liveness(lanes))
         if any(is_so for _, is_so in states):

@@ -135,6 +135,25 @@ typedef struct {
     uint8_t address[16];
 } hn_address;
 
+/* A peer on the link of an endpoint: an endpoint of another node there (RFC 7787, section 2). */
+typedef struct {
+    uint64_t contact; /* the moment at which it was last heard */
+    uint32_t id; /* the identifier of the node */
+    uint32_t endpoint; /* the node's own number of its endpoint */
+    uint16_t port; /* the UDP port and the address that it sends from */
+    uint8_t address[16];
+} hn_peer;
+
+/* What is known of another node, beside its data (RFC 7787, section 7.2.3). */
+typedef struct {
+    uint64_t came; /* the moment at which its sequence number came */
+    uint32_t id;
+    uint32_t number; /* its sequence number */
+    uint32_t age; /* how old its data were then, in milliseconds */
+    uint8_t reachable; /* 1: over peers that name each other; 0: it is kept for a while, and counts for nothing */
+    uint8_t hash[8]; /* of its data: the first half of their MD5 */
+} hn_known;
+
 /* Makes a router, with a number of 32 bits under which others know it (one's own: draw it once and keep it) and 32 bytes
  * that nobody can guess, of which all its random choices are made. It has no endpoints, and may know 256 other nodes. Out of
  * range: `now` is after 2^48, or the handle has a router, which stays. */
@@ -183,6 +202,21 @@ uint8_t hn_router_addresses(hn_router *router, uint64_t now, const hn_address *l
  * go: give them again. What was advertised is not forgotten (hn_router_advertise). */
 uint8_t hn_router_restart(hn_router *router, uint64_t now);
 
+/* What the router chooses for itself. Both calls are events. What they choose is as of the moment of the last event: tick before.
+ * Where there is nothing to do, time has passed, as by hn_router_tick. */
+
+/* The router announces a ULA prefix of its own making, withdraws one, or keeps what there is (RFC 7788, section 6.5). Call it
+ * after each tick for as long as the home is to have a ULA prefix where there is no other: of the reachable nodes the one with the
+ * greatest identifier announces a /48 inside fd00::/8 with a random Global ID (RFC 4193), which never ends, as by
+ * hn_router_external. It is withdrawn where a delegated prefix outside fd00::/8 is preferred, or a greater node has one too. Keep
+ * the prefix over a restart of the program: delegate it again. Refused: a ninth delegated prefix. */
+uint8_t hn_router_choose_ula(hn_router *router, uint64_t now);
+
+/* The router chooses an address of its own in each applied prefix of an attached endpoint, and has these and no others, as by
+ * hn_router_addresses (RFC 7788, section 6.4). One that it has stays, unless a greater node has it. A new one has a random number
+ * of 1 to 65535 behind the bits of the prefix, which no other node has. Call it after each tick. Refused: more than 64. */
+uint8_t hn_router_choose_addresses(hn_router *router, uint64_t now);
+
 /* Over a restart of the program. None of these calls is an event: the moment stays, and nothing is to be sent. Tell them before
  * the endpoints are attached. */
 
@@ -209,7 +243,7 @@ uint8_t hn_router_departed(hn_router *router, size_t place, hn_departed *departe
 uint8_t hn_router_depart(hn_router *router, uint32_t endpoint, const uint8_t prefix[16], uint8_t length, uint32_t valid);
 
 /* Reports. The router stays as it is. What is written to stays as it is unless the call is done, but for `count`, and for
- * `sent` of hn_router_send. */
+ * `sent` of hn_router_send and `known` of hn_router_data. */
 
 /* The moment up to which each tick does nothing; it may be past. It is never above 2^49. */
 uint64_t hn_router_due(hn_router *router);
@@ -240,10 +274,31 @@ uint8_t hn_router_note(hn_router *router, size_t place, hn_note *note);
 size_t hn_router_assignments(hn_router *router);
 uint8_t hn_router_assigned(hn_router *router, size_t place, hn_assigned *assigned);
 
+/* How many addresses the router has (hn_router_addresses, hn_router_choose_addresses), and the one at a place, from 0 on in
+ * ascending order of endpoint and address. */
+size_t hn_router_own_addresses(hn_router *router);
+uint8_t hn_router_own_address(hn_router *router, size_t place, hn_address *address);
+
 /* How many nodes are reachable, the router itself among them, and the identifier of the one at a place, from 0 on in
  * ascending order. */
 size_t hn_router_nodes(hn_router *router);
 uint8_t hn_router_node(hn_router *router, size_t place, uint32_t *id);
+
+/* How many peers there are on the link of an endpoint, 64 at most, and the one at a place, from 0 on in the order in which they
+ * came. An endpoint that is not attached has none. */
+size_t hn_router_peers(hn_router *router, uint32_t endpoint);
+uint8_t hn_router_peer(hn_router *router, uint32_t endpoint, size_t place, hn_peer *peer);
+
+/* How many other nodes are known, reachable or not, and what is known of the one at a place, from 0 on in ascending order of
+ * identifiers: how many bytes its data have, and these, which are TLVs (RFC 7787, section 7; RFC 7788, section 10). A room of
+ * 60000 bytes is enough for each. Out of range: nothing at that place, or no room for the data; `known` and `count` tell of the
+ * node where there is no room. */
+size_t hn_router_known(hn_router *router);
+uint8_t hn_router_data(hn_router *router, size_t place, hn_known *known, size_t *count, uint8_t *room, size_t room_length);
+
+/* How many bytes the data have that the router itself published last, under the number of hn_router_number, and these. Out of
+ * range: no room for them (`count` tells how much is wanted then). */
+uint8_t hn_router_published(hn_router *router, size_t *count, uint8_t *room, size_t room_length);
 
 /* The delegated prefix at a place, from 0 on in ascending order, of those that are used in the home; at most 32. What is left
  * of its lifetimes is as of the moment of the last event. */
@@ -274,6 +329,14 @@ uint8_t hn_router_advert(hn_router *router, uint32_t endpoint, size_t *count, ui
  * one link for good. An endpoint that is not attached is answered too, with what departed there. Out of range: no room for it
  * (`count` tells how much is wanted then). A room of 1,232 bytes is always enough. */
 uint8_t hn_router_advertise(hn_router *router, uint32_t endpoint, size_t *count, uint8_t *room, size_t room_length);
+
+/* As hn_router_advertise, with options of the caller's behind those of the library, such as RDNSS (RFC 8106) or MTU. The
+ * prefixes of hn_router_advert stand first, then as many departed ones as have room beside the options, and then the options as
+ * they are given. All of it has at most 1,232 bytes. Options of 192 bytes always have room, but departed ones may have none then,
+ * and wait. Out of range: bytes that are no whole options (RFC 4861, section 4.6: the second byte of each is its length in units
+ * of 8 bytes, and not 0) or have a Prefix Information option that is none (section 4.6.2); `count` stays then. Also out of range:
+ * more than 1,232 bytes in all, or no room for it; `count` tells how much is wanted then. */
+uint8_t hn_router_advertise_with(hn_router *router, uint32_t endpoint, const uint8_t *options, size_t options_length, size_t *count, uint8_t *room, size_t room_length);
 
 #ifdef __cplusplus
 }

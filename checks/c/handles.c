@@ -19,6 +19,8 @@ static void no_event_happens(hn_router *router)
     CHECK(hn_router_private(router, 5, 60) == 2);
     CHECK(hn_router_addresses(router, 5, &own, 1) == 2);
     CHECK(hn_router_restart(router, 5) == 2);
+    CHECK(hn_router_choose_ula(router, 5) == 2);
+    CHECK(hn_router_choose_addresses(router, 5) == 2);
 }
 
 static void nothing_is_counted(hn_router *router)
@@ -31,6 +33,7 @@ static void nothing_is_counted(hn_router *router)
     CHECK(hn_router_moment(router) == 0 && hn_router_identifier(router) == 0 && hn_router_number(router) == 0);
     CHECK(hn_router_sends(router) == 0 && hn_router_notes(router) == 0);
     CHECK(hn_router_assignments(router) == 0 && hn_router_nodes(router) == 0);
+    CHECK(hn_router_peers(router, LINK) == 0 && hn_router_known(router) == 0 && hn_router_own_addresses(router) == 0);
 }
 
 static void nothing_is_reported(hn_router *router)
@@ -40,6 +43,7 @@ static void nothing_is_reported(hn_router *router)
     hn_assigned assigned = {.endpoint = 77};
     hn_used used = {.valid = 77};
     hn_elected elected = {.id = 77};
+    hn_address own = {.endpoint = 77};
     uint32_t id = 77;
     size_t count = 77;
     room[0] = 77;
@@ -47,10 +51,24 @@ static void nothing_is_reported(hn_router *router)
     CHECK(hn_router_note(router, 0, &note) == 2 && note.number == 77);
     CHECK(hn_router_assigned(router, 0, &assigned) == 2 && assigned.endpoint == 77);
     CHECK(hn_router_node(router, 0, &id) == 2 && id == 77);
+    CHECK(hn_router_own_address(router, 0, &own) == 2 && own.endpoint == 77);
     CHECK(hn_router_used(router, 0, &used) == 2 && used.valid == 77);
     CHECK(hn_router_elected(router, LINK, 0, &elected) == 2 && elected.id == 77);
     CHECK(hn_router_advert(router, LINK, &count, room, sizeof room) == 2);
     CHECK(hn_router_advertise(router, LINK, &count, room, sizeof room) == 2);
+    CHECK(hn_router_advertise_with(router, LINK, room, 0, &count, room + 1, sizeof room - 1) == 2);
+    CHECK(count == 77 && room[0] == 77 && room[1] == 0);
+}
+
+static void nobody_is_known(hn_router *router)
+{
+    hn_peer peer = {.id = 77};
+    hn_known known = {.id = 77};
+    size_t count = 77;
+    room[0] = 77;
+    CHECK(hn_router_peer(router, LINK, 0, &peer) == 2 && peer.id == 77);
+    CHECK(hn_router_data(router, 0, &known, &count, room, sizeof room) == 2 && known.id == 77);
+    CHECK(hn_router_published(router, &count, room, sizeof room) == 2);
     CHECK(count == 77 && room[0] == 77);
 }
 
@@ -69,6 +87,7 @@ static void has_no_router(hn_router *router)
     no_event_happens(router);
     nothing_is_counted(router);
     nothing_is_reported(router);
+    nobody_is_known(router);
     nothing_is_kept(router);
     hn_router_free(router);
     CHECK(router->at == NULL);

@@ -13,13 +13,13 @@ use Rattle.hn_router.specs.Advertising.{IsAdvertAt}
 use Rattle.hn_kept.specs.Kept.{Kept, IsNextAdvert, room_beside}
 use Rattle.hn_kept.proofs.HeldPrefixes.{few_held}
 
-pub is_next : IsTotalOrder pair_cmp → (k : Kept) (at : EpId) (bytes : List ℕ) (s : State) (d told : List (EpId × Told)) (advert : Advert) (now count room : ℕ) (held infos : List Info)
-    → s ≡ k.router → d ≡ k.told → IsRouter s → IsAdvertAt s at advert → now ≡ s.moment → count ≡ length advert.infos → room ≡ room_beside count → held ≡ advert.infos
+pub is_next : IsTotalOrder pair_cmp → (k : Kept) (at : EpId) (options : ℕ) (bytes : List ℕ) (s : State) (d told : List (EpId × Told)) (advert : Advert) (now count room : ℕ) (held infos : List Info)
+    → s ≡ k.router → d ≡ k.told → IsRouter s → IsAdvertAt s at advert → now ≡ s.moment → count ≡ length advert.infos → room ≡ room_beside options count → held ≡ advert.infos
     → infos ≡ with_departed now held room (told_at at d) → told ≡ with_told now at (told_after now held room (told_at at d)) d
-    → bytes ≡ advert_bytes (record advert { infos = infos }) → IsNextAdvert k at bytes told
-is_next total k at bytes s d told advert now count room held infos same past router is_advert now_is count_is room_is held_is infos_are told_is bytes_are =
+    → bytes ≡ advert_bytes (record advert { infos = infos }) → IsNextAdvert k at options bytes told
+is_next total k at options bytes s d told advert now count room held infos same past router is_advert now_is count_is room_is held_is infos_are told_is bytes_are =
     let moment : now ≡ k.router.moment = now_is ∙ ap (λ (t : State). t.moment) same in
-    let beside : room ≡ room_beside (length advert.infos) = room_is ∙ ap room_beside count_is in
+    let beside : room ≡ room_beside options (length advert.infos) = room_is ∙ ap (room_beside options) count_is in
     let of_k : IsAdvertAt k.router at advert = subst (λ (t : State). IsAdvertAt t at advert) same is_advert in
     record {
       advert = advert;

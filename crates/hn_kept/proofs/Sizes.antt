@@ -1,5 +1,7 @@
 -- An advertisement has 16 bytes, and 32 for each prefix.
 use Rattle.hn_base.proofs.Names.{◌≡◌, ℕ, ◌+◌, ◌*◌, ◌≤◌, List, [], ◌∷◌, length, map, refl, subst, sym, arith, length-append}
+use Rattle.std.proofs.Math.Nat.{mul-div-le}
+use Rattle.std.specs.Prelude.{◌-◌, ◌/◌}
 use Rattle.hn_base.specs.declared.ids.EpId.{EpId}
 use Rattle.hn_advert.specs.declared.advert.Advert.{Advert}
 use Rattle.hn_advert.specs.declared.advert.Info.{Info}
@@ -31,11 +33,32 @@ length-advert a =
     let options = length-options a.infos in
     omega (arith, all, header, options)
 
-pub is_short : FewAreKept → (k : Kept) (at : EpId) (bytes : List ℕ) (told : List (EpId × Told)) → IsNextAdvert k at bytes told → length bytes ≤ 1232
-is_short are_few k at bytes told next =
+-- so many prefixes have room
+in_room : (options : ℕ) → 32 * ((1232 - 16 - options) / 32) ≤ 1232 - 16 - options
+in_room options = mul-div-le (1232 - 16 - options) 32
+
+-- how many bytes the next one has
+size : FewAreKept → (k : Kept) (at : EpId) (options : ℕ) (bytes : List ℕ) (told : List (EpId × Told)) (next : IsNextAdvert k at options bytes told)
+    → length bytes ≤ 16 + 32 * (length next.advert.infos + room_beside options (length next.advert.infos))
+size are_few k at options bytes told next =
     let count = length next.advert.infos in
-    let infos = with_departed k.router.moment next.advert.infos (room_beside count) (told_at at k.told) in
-    let few : length infos ≤ count + room_beside count = are_few.told k.router.moment next.advert.infos (room_beside count) (told_at at k.told) in
-    let size = length-advert (record next.advert { infos = infos }) in
-    let short : length (advert_bytes (record next.advert { infos = infos })) ≤ 1232 = omega (arith, few, size, next.few) in
-    subst (λ (bs : List ℕ). length bs ≤ 1232) (sym next.bytes_are) short
+    let infos = with_departed k.router.moment next.advert.infos (room_beside options count) (told_at at k.told) in
+    let few : length infos ≤ count + room_beside options count = are_few.told k.router.moment next.advert.infos (room_beside options count) (told_at at k.told) in
+    let all = length-advert (record next.advert { infos = infos }) in
+    let short : length (advert_bytes (record next.advert { infos = infos })) ≤ 16 + 32 * (count + room_beside options count) = omega (arith, few, all) in
+    subst (λ (bs : List ℕ). length bs ≤ 16 + 32 * (count + room_beside options count)) (sym next.bytes_are) short
+
+pub is_short : FewAreKept → (k : Kept) (at : EpId) (options : ℕ) (bytes : List ℕ) (told : List (EpId × Told)) → IsNextAdvert k at options bytes told
+    → length bytes ≤ 1232
+is_short are_few k at options bytes told next =
+    let most = size are_few k at options bytes told next in
+    let room = in_room options in
+    omega (arith, most, room, next.few)
+
+-- with 192 bytes of options or fewer
+pub is_short_beside : FewAreKept → (k : Kept) (at : EpId) (options : ℕ) (bytes : List ℕ) (told : List (EpId × Told)) → IsNextAdvert k at options bytes told
+    → options ≤ 192 → length bytes + options ≤ 1232
+is_short_beside are_few k at options bytes told next small =
+    let most = size are_few k at options bytes told next in
+    let room = in_room options in
+    omega (arith, most, room, next.few, small)

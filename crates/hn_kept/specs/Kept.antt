@@ -48,18 +48,18 @@ pub record Acts (now : ℕ) (event : PlainEvent) (before after : Kept) : Type 0 
   pub told : after.told ≡ before.told
   pub preferred : after.preferred ≡ before.preferred
 
--- So many departed prefixes have room behind so many that are to be advertised. An advertisement has at most 1,232 bytes:
--- 1,280 (RFC 8200, section 5), less 40 of the IPv6 header, and 8 for an extension header. It has 16 bytes before its options,
--- and 32 for each prefix (RFC 4861, sections 4.2 and 4.6.2).
-abbrev pub room_beside : ℕ → ℕ
-room_beside count = (1232 - 16) / 32 - count
+-- So many departed prefixes have room behind so many that are to be advertised, beside so many bytes of the caller's options. An
+-- advertisement has at most 1,232 bytes: 1,280 (RFC 8200, section 5), less 40 of the IPv6 header, and 8 for an extension
+-- header. It has 16 bytes before its options, and 32 for each prefix (RFC 4861, sections 4.2 and 4.6.2).
+abbrev pub room_beside : ℕ → ℕ → ℕ
+room_beside options count = (1232 - 16 - options) / 32 - count
 
--- The bytes of an advertisement that is to be sent on an endpoint at the router's moment, and what was advertised once it is
--- sent: the advertisement of the router, and after its prefixes, of which there are at most 32, those that are departed there
--- (RFC 9096, section 3.5) as far as there is room.
-pub record IsNextAdvert (k : Kept) (at : EpId) (bytes : List ℕ) (told : List (EpId × Told)) : Type 0 where
+-- The bytes of an advertisement that is to be sent on an endpoint at the router's moment, beside so many bytes of the caller's
+-- options, and what was advertised once it is sent: the advertisement of the router, and after its prefixes, of which there are
+-- at most 32, those that are departed there (RFC 9096, section 3.5) as far as there is room.
+pub record IsNextAdvert (k : Kept) (at : EpId) (options : ℕ) (bytes : List ℕ) (told : List (EpId × Told)) : Type 0 where
   pub advert : Advert
   pub is_advert : IsAdvertAt k.router at advert
   pub few : length advert.infos ≤ 32
-  pub bytes_are : bytes ≡ advert_bytes (record advert { infos = with_departed k.router.moment advert.infos (room_beside (length advert.infos)) (told_at at k.told) })
-  pub told_is : told ≡ with_told k.router.moment at (told_after k.router.moment advert.infos (room_beside (length advert.infos)) (told_at at k.told)) k.told
+  pub bytes_are : bytes ≡ advert_bytes (record advert { infos = with_departed k.router.moment advert.infos (room_beside options (length advert.infos)) (told_at at k.told) })
+  pub told_is : told ≡ with_told k.router.moment at (told_after k.router.moment advert.infos (room_beside options (length advert.infos)) (told_at at k.told)) k.told

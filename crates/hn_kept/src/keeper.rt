@@ -1,6 +1,7 @@
-ghost use Rattle.std.specs.Prelude.{◌≡◌, ◌≢◌, ◌≤◌, ◌^◌, [], length, nat_lt, true, false, OnOk, OnErr, IfOk};
+ghost use Rattle.std.specs.Prelude.{◌≡◌, ◌≢◌, ◌≤◌, ◌^◌, ◌+◌, [], length, nat_lt, true, false, OnOk, OnErr, IfOk};
 ghost use Rattle.hn_router.specs.Act.{plain_event, Tick};
 ghost use Rattle.hn_departed.specs.Departed.{told_at, told_but, with_earlier};
+ghost use Rattle.hn_kept.specs.Chosen.{ula_event, address_event, MakesUla, ChoosesAddresses};
 ghost use Rattle.hn_kept.specs.Choosing.{AreChosen};
 ghost use Rattle.hn_kept.specs.Kept.{Acts, IsNewKept, IsNextAdvert, asked_of, room_beside};
 ghost use Rattle.hn_kept.specs.Preferred.{without_pair, with_preferred};
@@ -9,6 +10,7 @@ ghost use Rattle.hn_kept.specs.Words.{AreDrawn};
 use crate::choosing::Asked;
 use crate::preferred::{Preferred, without_pair};
 use crate::words::{ChaChaWords, ListedWords};
+use hn_addr::{Choice, choose};
 use hn_advert::{Advert, bytes};
 use hn_assign::pairs_are_ordered;
 use hn_base::{Bytes, EpId, Moment, NoMemory, NodeId, Words};
@@ -16,8 +18,10 @@ use hn_departed::{Departures, Told, few_are_kept};
 use hn_prefix::Prefix;
 use hn_router::{Event, Router, moment_is_now, one_result};
 use hn_rules::Done;
+use hn_ula::{Ula, decide};
 use std::alloc::Global;
 use std::marker::Model;
+use std::mem::replace;
 
 /// How many bytes an advertisement has at most: 1,280 (RFC 8200, section 5), less 40 of the IPv6 header, and 8 for an
 /// extension header.
@@ -29,11 +33,45 @@ const HEADER_BYTES: usize = 16;
 
 const PREFIX_BYTES: usize = 32;
 
-/// So many departed prefixes have room behind so many that are to be advertised.
-fn room_beside(count: usize) -> usize
-    ensures { result ≡ room_beside count }
+/// So many departed prefixes have room beside so many bytes of options, and so many prefixes that are to be advertised.
+fn room_beside(options: usize, count: usize) -> usize
+    ensures { result ≡ room_beside options count }
 {
-    ((MOST_BYTES - HEADER_BYTES) / PREFIX_BYTES).saturating_sub(count)
+    ((MOST_BYTES - HEADER_BYTES).saturating_sub(options) / PREFIX_BYTES).saturating_sub(count)
+}
+
+/// The event by which a decision is made true. A prefix is announced for ever, and time passes where there is nothing to do.
+fn ula_event(decided: &Ula) -> Event<'static>
+    ensures { plain_event result ≡ ula_event decided.now }
+{
+    let _place = no_place();
+    match decided {
+        Ula::Keep => Event::Tick,
+        Ula::Announce(prefix) => Event::External {
+            prefix: *prefix,
+            valid: u32::MAX,
+            preferred: u32::MAX,
+        },
+        Ula::Withdraw(prefix) => Event::Withdraw { prefix: *prefix },
+    }
+}
+
+/// The event by which a choice of addresses is made true. Time passes where they stay.
+fn address_event(choice: &Choice) -> Event<'_>
+    ensures { plain_event result ≡ address_event choice.now }
+{
+    let _place = no_place();
+    match choice {
+        Choice::Keep => Event::Tick,
+        Choice::Set(list) => Event::Addresses {
+            list: list.as_slice(),
+        },
+    }
+}
+
+// No place. The checker has to see the type of an endpoint in the signature of a call.
+fn no_place() -> EpId {
+    EpId(0)
 }
 
 /// How many pairs may have a preferred prefix.
@@ -155,6 +193,66 @@ impl Keeper {
         Ok(())
     }
 
+    /// An event happens as by `act`, over other words than the own ones.
+    fn act_over(
+        &mut self,
+        alloc: Global,
+        words: ChaChaWords,
+        event: &Event<'_>,
+        now: Moment,
+    ) -> Result<(), NoMemory>
+        requires not_before { self.old.router.moment ≤ now }
+        requires in_range { now ≤ 2 ^ 48 }
+        ensures ok { OnOk result (Acts now (plain_event event.now) (record self.old { words = words }) self.new) }
+        ensures err { OnErr result (self.new ≡ self.old) }
+    {
+        let own = replace(&mut self.words, words);
+        match self.act(alloc, event, now) {
+            Ok(()) => Ok(()),
+            Err(error) => {
+                self.words = own;
+                Err(error)
+            }
+        }
+    }
+
+    /// The router decides whether to announce a ULA prefix of its own making, to withdraw one, or to keep what there is, as of
+    /// its last event (`hn_ula`). Then this happens at a moment; where it keeps what there is, time passes.
+    ///
+    /// # Errors
+    ///
+    /// Out of memory; all is as before then, the random words too.
+    pub fn ula(&mut self, alloc: Global, now: Moment) -> Result<(), NoMemory>
+        requires not_before { self.old.router.moment ≤ now }
+        requires in_range { now ≤ 2 ^ 48 }
+        ensures ok { OnOk result (MakesUla now self.old self.new) }
+        ensures err { OnErr result (self.new ≡ self.old) }
+    {
+        let _place = no_place();
+        let mut words = self.words.copy();
+        let decided = decide(alloc, &self.router, &mut words)?;
+        self.act_over(alloc, words, &ula_event(&decided), now)?;
+        Ok(())
+    }
+
+    /// The router chooses an address in each applied prefix, as of its last event (`hn_addr`). Then it gets these at a moment;
+    /// where they stay, time passes.
+    ///
+    /// # Errors
+    ///
+    /// Out of memory; all is as before then, the random words too.
+    pub fn address(&mut self, alloc: Global, now: Moment) -> Result<(), NoMemory>
+        requires not_before { self.old.router.moment ≤ now }
+        requires in_range { now ≤ 2 ^ 48 }
+        ensures ok { OnOk result (ChoosesAddresses now self.old self.new) }
+        ensures err { OnErr result (self.new ≡ self.old) }
+    {
+        let mut words = self.words.copy();
+        let choice = choose(alloc, &self.router, &mut words)?;
+        self.act_over(alloc, words, &address_event(&choice), now)?;
+        Ok(())
+    }
+
     /// The router. Never allocates.
     pub fn router(&self) -> &Router
         ensures { result.now ≡ self.now.router }
@@ -178,22 +276,29 @@ impl Keeper {
     }
 
     /// The bytes of an advertisement that is to be sent on an endpoint now, with the prefixes that were advertised there and
-    /// are no longer, as far as there is room; and what was advertised once it is sent, which is to be told (`tell`). They are
-    /// at most 1,232, whatever happened before.
+    /// are no longer, as far as there is room beside so many bytes of the caller's options; and what was advertised once it is
+    /// sent, which is to be told (`tell`). They are at most 1,232, whatever happened before, and with the options too where
+    /// these are at most 192.
     ///
     /// # Errors
     ///
     /// Out of memory.
-    pub fn next_advert(&self, alloc: Global, at: EpId) -> Result<(Bytes, Departures), NoMemory>
-        ensures next { IfOk result (λ next. IsNextAdvert self.now at next.0 next.1) }
+    pub fn next_advert(
+        &self,
+        alloc: Global,
+        at: EpId,
+        options: usize,
+    ) -> Result<(Bytes, Departures), NoMemory>
+        ensures next { IfOk result (λ next. IsNextAdvert self.now at options next.0 next.1) }
         ensures short { IfOk result (λ next. length next.0 ≤ 1232) }
+        ensures beside { IfOk result (λ next. options ≤ 192 → length next.0 + options ≤ 1232) }
     {
         pairs_are_ordered();
         few_are_kept();
         self.router.is_router();
         let advert = self.router.advertisement(alloc, at)?;
         let now = self.router.moment();
-        let room = room_beside(advert.infos.len());
+        let room = room_beside(options, advert.infos.len());
         let (infos, departures) = self
             .departures
             .next(alloc, now, at, advert.infos.as_slice(), room)?;

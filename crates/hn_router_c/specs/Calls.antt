@@ -1,18 +1,23 @@
 -- What a call of C comes to, by its status: 0 done, 1 out of memory, 2 a value is out of range.
-use Rattle.std.specs.Prelude.{◌≡◌, ◌≢◌, ◌⊎◌, ℕ, ◌^◌, ◌<◌, ◌≤◌, Bool, ◌||◌, ◌&&◌, ◌==◌, is_some, nat_lt, Option, Some, List, ◌++◌, drop, length, slice_get}
+use Rattle.std.specs.Prelude.{◌≡◌, ◌≢◌, ◌⊎◌, ℕ, ◌^◌, ◌<◌, ◌≤◌, Bool, ◌||◌, ◌&&◌, ◌==◌, is_some, nat_lt, Option, Some, List, [], ◌++◌, drop, length, slice_get}
+use Rattle.std.specs.Option.{option_map_or}
 use Rattle.hn_router.specs.Act.{PlainEvent}
 use Rattle.hn_base.specs.declared.ids.EpId.{EpId}
 use Rattle.hn_base.specs.declared.ids.NodeId.{NodeId}
 use Rattle.hn_base.specs.declared.letter.Letter.{Letter}
 use Rattle.hn_deleg.specs.declared.delegated.Delegated.{Delegated}
 use Rattle.hn_deleg.specs.Used.{AreUsable}
-use Rattle.hn_own.specs.Ports.{is_attached}
+use Rattle.hn_dncp.specs.declared.peers.Neighbour.{Neighbour}
+use Rattle.hn_own.specs.Addresses.{OwnAddress}
+use Rattle.hn_own.specs.Ports.{is_attached, port_at}
+use Rattle.hn_store.specs.declared.stored.HeldNode.{HeldNode}
 use Rattle.hn_rules.specs.declared.state.State.{State}
 use Rattle.hn_rules.specs.declared.done.Outgoing.{Outgoing}
 use Rattle.hn_rules.specs.declared.done.Note as noted
 use Rattle.hn_assign.specs.declared.assigned.Assigned as assign
 use Rattle.hn_rules.specs.Seen.{seen_by, IsElectedAt}
 use Rattle.hn_router.specs.Advertising.{IsAdvertBytes}
+use Rattle.hn_advert.specs.Reading.{HasOptions}
 use Rattle.std.specs.Int.{w128, from_be_bytes}
 use Rattle.hn_base.specs.Prefix.{PlainPrefix, IsPrefix, IsWithin}
 use Rattle.hn_departed.specs.declared.departures.Told.{Told}
@@ -26,7 +31,10 @@ use Rattle.hn_router_c.specs.declared.kinds.Assigned.{Assigned}
 use Rattle.hn_router_c.specs.declared.kinds.Note.{Note}
 use Rattle.hn_router_c.specs.declared.kinds.Used.{Used}
 use Rattle.hn_router_c.specs.declared.kinds.Elected.{Elected}
-use Rattle.hn_router_c.specs.Kinds.{sent_of, assigned_of, note_of, used_of, elected_of, letter_of, departed_of}
+use Rattle.hn_router_c.specs.declared.kinds.Peer.{Peer}
+use Rattle.hn_router_c.specs.declared.kinds.Known.{Known}
+use Rattle.hn_router_c.specs.declared.kinds.Address.{Address}
+use Rattle.hn_router_c.specs.Kinds.{sent_of, assigned_of, note_of, used_of, elected_of, letter_of, departed_of, peer_of, known_of, address_of}
 
 -- the handle has a router, of which this holds
 pub record Has (held : Option Kept) (Holds : Kept → Type 0) : Type 0 where
@@ -43,6 +51,13 @@ pub record Acted (now : ℕ) (event : PlainEvent) (before : Kept) (held_after : 
   pub after : Kept
   pub has : held_after ≡ Some after
   pub happened : status ≡ 0 → Acts now event before after
+  pub as_before : status ≢ 0 → after ≡ before
+
+-- the same where something else happens to it than an event that C names
+pub record Became (Happens : Kept → Kept → Type 0) (before : Kept) (held_after : Option Kept) (status : ℕ) : Type 0 where
+  pub after : Kept
+  pub has : held_after ≡ Some after
+  pub happened : status ≡ 0 → Happens before after
   pub as_before : status ≢ 0 → after ≡ before
 
 -- so many bytes are at the front of a room, and the rest of it is as it was
@@ -128,7 +143,7 @@ pub record IsUnadvertised (s : State) (at : EpId) (count : ℕ) (room : List ℕ
 pub record Advertises (at : EpId) (before after : Kept) (count : ℕ) (room room_after : List ℕ) : Type 0 where
   pub bytes : List ℕ
   pub told : List (EpId × Told)
-  pub is_next : IsNextAdvert before at bytes told
+  pub is_next : IsNextAdvert before at 0 bytes told
   pub kept : after ≡ record before { told = told }
   pub written : IsWritten bytes count room room_after
 
@@ -136,7 +151,7 @@ pub record Advertises (at : EpId) (before after : Kept) (count : ℕ) (room room
 pub record HasNoRoomFor (k : Kept) (at : EpId) (count : ℕ) (room : List ℕ) : Type 0 where
   pub bytes : List ℕ
   pub told : List (EpId × Told)
-  pub is_next : IsNextAdvert k at bytes told
+  pub is_next : IsNextAdvert k at 0 bytes told
   pub no_room : ExceedsRoom bytes count room
 
 -- the handle had this router and has one: with status 0 it advertises, with 2 there was no room, and without 0 it is as it was
@@ -146,6 +161,71 @@ pub record Advertised (at : EpId) (before : Kept) (held_after : Option Kept) (co
   pub advertises : status ≡ 0 → Advertises at before after count room room_after
   pub no_room : status ≡ 2 → HasNoRoomFor before at count room
   pub as_before : status ≢ 0 → after ≡ before
+
+-- the own address at a place
+pub record IsOwnAddressAt (all : List OwnAddress) (place : ℕ) (out : Address) : Type 0 where
+  pub own : OwnAddress
+  pub at : slice_get all place ≡ Some own
+  pub is : out ≡ address_of own
+
+-- ---- an advertisement with options of the caller's
+
+-- The bytes of the advertisement that is to be sent on an endpoint now beside the caller's options, and after them these options,
+-- are written, 1,232 bytes at most; and what was advertised is kept.
+pub record AdvertisesWith (at : EpId) (options : List ℕ) (before after : Kept) (count : ℕ) (room room_after : List ℕ) : Type 0 where
+  pub are_options : HasOptions options
+  pub bytes : List ℕ
+  pub told : List (EpId × Told)
+  pub is_next : IsNextAdvert before at (length options) bytes told
+  pub kept : after ≡ record before { told = told }
+  pub written : IsWritten (bytes ++ options) count room room_after
+  pub short : count ≤ 1232
+
+-- they are more than 1,232 bytes, or than a room has
+pub record HasNoRoomWith (at : EpId) (options : List ℕ) (k : Kept) (count : ℕ) (room : List ℕ) : Type 0 where
+  pub are_options : HasOptions options
+  pub bytes : List ℕ
+  pub told : List (EpId × Told)
+  pub is_next : IsNextAdvert k at (length options) bytes told
+  pub count_is : count ≡ length (bytes ++ options)
+  pub longer : (1232 < count) ⊎ (length room < count)
+
+-- the caller's bytes are no whole options, and nothing is counted; or there is no room
+abbrev pub IsRefusedWith : EpId → List ℕ → Kept → ℕ → ℕ → List ℕ → Type 0
+IsRefusedWith at options k count_before count room = ((¬ (HasOptions options)) × (count ≡ count_before)) ⊎ HasNoRoomWith at options k count room
+
+-- the handle had this router and has one: with status 0 it advertises, with 2 it refuses, and without 0 it is as it was
+pub record AdvertisedWith (at : EpId) (options : List ℕ) (before : Kept) (held_after : Option Kept) (count_before count : ℕ) (room room_after : List ℕ) (status : ℕ) : Type 0 where
+  pub after : Kept
+  pub has : held_after ≡ Some after
+  pub advertises : status ≡ 0 → AdvertisesWith at options before after count room room_after
+  pub refused : status ≡ 2 → IsRefusedWith at options before count_before count room
+  pub as_before : status ≢ 0 → after ≡ before
+
+-- ---- what is known of the other nodes
+
+-- the peers on the link of an endpoint; one that is not attached has none
+abbrev pub peers_on : EpId → State → List Neighbour
+peers_on at s = option_map_or (λ port. port.peers) (port_at at s.ports) []
+
+-- the peer at a place
+pub record IsPeerAt (peers : List Neighbour) (place : ℕ) (out : Peer) : Type 0 where
+  pub peer : Neighbour
+  pub at : slice_get peers place ≡ Some peer
+  pub is : out ≡ peer_of peer
+
+-- what is known of the node at a place, and its data
+pub record IsKnownAt (nodes : List HeldNode) (place : ℕ) (known : Known) (count : ℕ) (room room_after : List ℕ) : Type 0 where
+  pub node : HeldNode
+  pub at : slice_get nodes place ≡ Some node
+  pub is : known ≡ known_of node
+  pub data_are : IsWritten node.stored.body count room room_after
+
+-- there is no node at a place, or no room for the data of the one that is
+abbrev pub IsUnknown : List HeldNode → ℕ → Known → ℕ → List ℕ → Type 0
+IsUnknown nodes place known count room =
+    (length nodes ≤ place)
+    ⊎ ((node : HeldNode) × (slice_get nodes place ≡ Some node) × (known ≡ known_of node) × ExceedsRoom node.stored.body count room)
 
 -- ---- what is kept over a restart
 

@@ -1,5 +1,5 @@
 -- What C gets of a router's values, and gives.
-use Rattle.std.specs.Prelude.{ℕ, ◌≤◌, ◌==◌, Bool, true, false, if◌then◌else◌, Option, Some, None, is_some}
+use Rattle.std.specs.Prelude.{ℕ, ◌≤◌, ◌==◌, Bool, true, false, if◌then◌else◌, Option, Some, None, is_some, is_none}
 use Rattle.std.specs.Int.{w128, to_be_bytes, from_be_bytes}
 use Rattle.hn_base.specs.declared.ids.NodeId.{NodeId}
 use Rattle.hn_base.specs.declared.ids.EpId.{EpId}
@@ -11,6 +11,8 @@ use Rattle.hn_deleg.specs.declared.delegated.Delegated.{Delegated}
 use Rattle.hn_assign.specs.declared.assigned.Assigned as assign
 use Rattle.hn_store.specs.declared.state.Took.{Took}
 use Rattle.hn_store.specs.declared.state.Took.TheVariants as took
+use Rattle.hn_dncp.specs.declared.peers.Neighbour.{Neighbour}
+use Rattle.hn_store.specs.declared.stored.HeldNode.{HeldNode}
 use Rattle.hn_rules.specs.declared.done.Outgoing.{Outgoing}
 use Rattle.hn_rules.specs.declared.done.Note as noted
 use Rattle.hn_rules.specs.declared.done.Note.TheVariants as note
@@ -23,6 +25,8 @@ use Rattle.hn_router_c.specs.declared.kinds.Used.{Used}
 use Rattle.hn_router_c.specs.declared.kinds.Elected.{Elected}
 use Rattle.hn_router_c.specs.declared.kinds.Note.{Note}
 use Rattle.hn_router_c.specs.declared.kinds.Address.{Address}
+use Rattle.hn_router_c.specs.declared.kinds.Peer.{Peer}
+use Rattle.hn_router_c.specs.declared.kinds.Known.{Known}
 
 -- 1 and 0
 abbrev pub flag : Bool → ℕ
@@ -62,6 +66,27 @@ departed_of now told = record {
   prefix = to_be_bytes w128 told.1.prefix.bits;
 }
 
+-- a peer on the link of an endpoint
+abbrev pub peer_of : Neighbour → Peer
+peer_of p = record {
+  contact = p.contact;
+  id = p.node.0;
+  endpoint = p.endpoint.0;
+  port = p.addr.port;
+  address = to_be_bytes w128 p.addr.ip;
+}
+
+-- what is known of another node
+abbrev pub known_of : HeldNode → Known
+known_of node = record {
+  came = node.stored.at;
+  id = node.id.0;
+  number = node.stored.number;
+  age = node.stored.age;
+  reachable = flag (is_none node.stored.lost);
+  hash = node.stored.hash;
+}
+
 -- who is elected
 abbrev pub elected_of : Option NodeId → Elected
 elected_of (Some id) = record { id = id.0; some = 1 }
@@ -92,6 +117,10 @@ note_of note.Refused = record { number = 0; kind = 7; why = 0 }
 -- an address of an endpoint, as a router has it
 abbrev pub own_address : Address → OwnAddress
 own_address a = (record { 0 = a.endpoint }, from_be_bytes w128 a.address)
+
+-- and as C gets it
+abbrev pub address_of : OwnAddress → Address
+address_of own = record { endpoint = own.0.0; address = to_be_bytes w128 own.1 }
 
 -- capabilities, each of which is 0 to 15 (RFC 7788, section 10.1)
 pub record AreCapsInRange (m p h l : ℕ) : Type 0 where

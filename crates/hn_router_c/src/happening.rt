@@ -22,7 +22,7 @@ pub(crate) const NO_MEMORY: u8 = 1;
 pub(crate) const OUT_OF_RANGE: u8 = 2;
 
 /// Whether no event of a router may have a moment.
-fn is_outside(router: &Router, now: Moment) -> bool
+pub(crate) fn is_outside(router: &Router, now: Moment) -> bool
     ensures { result ≡ is_outside now router.now }
 {
     now < router.moment() || LAST_MOMENT < now

@@ -1,11 +1,12 @@
 ghost use Rattle.std.specs.Prelude.{◌≡◌};
-ghost use Rattle.hn_router_c.specs.Kinds.{sent_of, assigned_of, note_of, took_number, used_of, elected_of, own_address, letter_of, departed_of};
+ghost use Rattle.hn_router_c.specs.Kinds.{sent_of, assigned_of, note_of, took_number, used_of, elected_of, own_address, address_of, letter_of, departed_of, peer_of, known_of};
 
 use hn_base::{EpId, Letter, Moment, NodeId};
 use hn_deleg::Delegated;
 use hn_departed::Told;
+use hn_dncp::Neighbour;
 use hn_rules::Outgoing;
-use hn_store::Took;
+use hn_store::{HeldNode, Took};
 
 /// The port of HNCP (RFC 7788, section 14).
 const PORT: u16 = 8231;
@@ -91,6 +92,40 @@ pub struct Departed {
     pub prefix: [u8; 16],
 }
 
+/// A peer on the link of an endpoint: an endpoint of another node there.
+#[repr(C)]
+#[derive(Clone, Copy)]
+pub struct Peer {
+    /// The moment at which it was last heard, in milliseconds.
+    pub contact: u64,
+    /// The identifier of the node.
+    pub id: u32,
+    /// The endpoint, by the node's own number.
+    pub endpoint: u32,
+    /// The UDP port that it sends from.
+    pub port: u16,
+    /// The address that it sends from.
+    pub address: [u8; 16],
+}
+
+/// What is known of another node, beside its data.
+#[repr(C)]
+#[derive(Clone, Copy)]
+pub struct Known {
+    /// The moment at which its sequence number came, in milliseconds.
+    pub came: u64,
+    /// The identifier.
+    pub id: u32,
+    /// The sequence number.
+    pub number: u32,
+    /// How old its data were then, in milliseconds.
+    pub age: u32,
+    /// 1 where it is reachable, and else 0.
+    pub reachable: u8,
+    /// The hash of its data.
+    pub hash: [u8; 8],
+}
+
 /// An address of the router, on an endpoint.
 #[repr(C)]
 #[derive(Clone, Copy)]
@@ -159,6 +194,33 @@ pub(crate) fn departed_of(now: Moment, told: &(EpId, Told)) -> Departed
     }
 }
 
+/// A peer. Never allocates.
+pub(crate) fn peer_of(peer: &Neighbour) -> Peer
+    ensures { result ≡ peer_of peer.now }
+{
+    Peer {
+        contact: peer.contact,
+        id: peer.node.0,
+        endpoint: peer.endpoint.0,
+        port: peer.addr.port,
+        address: peer.addr.ip.to_be_bytes(),
+    }
+}
+
+/// What is known of another node. Never allocates.
+pub(crate) fn known_of(node: &HeldNode) -> Known
+    ensures { result ≡ known_of node.now }
+{
+    Known {
+        came: node.stored.at,
+        id: node.id.0,
+        number: node.stored.number,
+        age: node.stored.age,
+        reachable: if node.stored.lost.is_none() { 1 } else { 0 },
+        hash: node.stored.hash,
+    }
+}
+
 /// Who is elected. Never allocates.
 pub(crate) fn elected_of(elected: Option<NodeId>) -> Elected
     ensures { result ≡ elected_of elected }
@@ -220,4 +282,14 @@ pub(crate) fn own_address(address: &Address) -> (EpId, u128)
     ensures { result ≡ own_address address.now }
 {
     (EpId(address.endpoint), u128::from_be_bytes(address.address))
+}
+
+/// An own address of the router. Never allocates.
+pub(crate) fn address_of(own: &(EpId, u128)) -> Address
+    ensures { result ≡ address_of own.now }
+{
+    Address {
+        endpoint: own.0.0,
+        address: own.1.to_be_bytes(),
+    }
 }

@@ -15,7 +15,7 @@ use hn_rules::Outgoing;
 use std::alloc::Global;
 
 /// Writes bytes at the front of a room that has place for them, says whether it has, and counts them.
-fn write(bytes: &[u8], count: &mut usize, room: &mut [u8]) -> bool
+pub(crate) fn write(bytes: &[u8], count: &mut usize, room: &mut [u8]) -> bool
     ensures fits { IsTrue result ↔ (length bytes.now ≤ length room.old) }
     ensures written { IsTrue result → IsWritten bytes.now count.new room.old room.new }
     ensures no_room { result ≡ false → ExceedsRoom bytes.now count.new room.old }
@@ -332,7 +332,7 @@ fn advertise(alloc: Global, keeper: &mut Keeper, at: EpId, count: &mut usize, ro
     ensures unwritten { result ≢ 0 → room.new ≡ room.old }
     ensures status { result ≤ 2 }
 {
-    let Ok((bytes, departures)) = keeper.next_advert(alloc, at) else {
+    let Ok((bytes, departures)) = keeper.next_advert(alloc, at, 0) else {
         return NO_MEMORY;
     };
     if !write(bytes.as_slice(), count, room) {

@@ -27,7 +27,7 @@ address_event (choice.Set list) = event.Addresses list
 
 -- A router chooses something as of its last event, over the generator's next words. Then an event happens by which this is made
 -- true, and takes the words after them.
-pub record Chooses {A : Type 0} (IsChosen : State → A → List ℕ → Type 0) (event_of : A → PlainEvent) (now : ℕ) (before after : Kept) : Type 0 where
+pub record ChoosesBeside {A : Type 0} (IsChosen : State → A → List ℕ → Type 0) (event_of : A → PlainEvent) (now : ℕ) (before after : Kept) : Type 0 where
   pub chosen : A
   pub words : List ℕ
   pub next : ChaCha
@@ -37,7 +37,7 @@ pub record Chooses {A : Type 0} (IsChosen : State → A → List ℕ → Type 0)
 
 -- it decides on a ULA prefix of its own making (RFC 7788, section 6.5), and chooses its addresses (section 6.4)
 abbrev pub MakesUla : ℕ → Kept → Kept → Type 0
-MakesUla = Chooses Decides ula_event
+MakesUla = ChoosesBeside Decides ula_event
 
 abbrev pub ChoosesAddresses : ℕ → Kept → Kept → Type 0
-ChoosesAddresses = Chooses IsChoice address_event
+ChoosesAddresses = ChoosesBeside IsChoice address_event

@@ -34,7 +34,7 @@ use Rattle.hn_router_c.specs.declared.kinds.Elected.{Elected}
 use Rattle.hn_router_c.specs.declared.kinds.Peer.{Peer}
 use Rattle.hn_router_c.specs.declared.kinds.Known.{Known}
 use Rattle.hn_router_c.specs.declared.kinds.Address.{Address}
-use Rattle.hn_router_c.specs.Kinds.{sent_of, assigned_of, note_of, used_of, elected_of, letter_of, departed_of, peer_of, known_of, address_of}
+use Rattle.hn_router_c.specs.Kinds.{sent_of, assigned_of, note_of, used_of, elected_of, letter_of, departed_of, peer_out, known_out, address_out}
 
 -- the handle has a router, of which this holds
 pub record Has (held : Option Kept) (Holds : Kept → Type 0) : Type 0 where
@@ -166,7 +166,7 @@ pub record Advertised (at : EpId) (before : Kept) (held_after : Option Kept) (co
 pub record IsOwnAddressAt (all : List OwnAddress) (place : ℕ) (out : Address) : Type 0 where
   pub own : OwnAddress
   pub at : slice_get all place ≡ Some own
-  pub is : out ≡ address_of own
+  pub is : out ≡ address_out own
 
 -- ---- an advertisement with options of the caller's
 
@@ -209,23 +209,23 @@ abbrev pub peers_on : EpId → State → List Neighbour
 peers_on at s = option_map_or (λ port. port.peers) (port_at at s.ports) []
 
 -- the peer at a place
-pub record IsPeerAt (peers : List Neighbour) (place : ℕ) (out : Peer) : Type 0 where
+pub record IsPeerOut (peers : List Neighbour) (place : ℕ) (out : Peer) : Type 0 where
   pub peer : Neighbour
   pub at : slice_get peers place ≡ Some peer
-  pub is : out ≡ peer_of peer
+  pub is : out ≡ peer_out peer
 
 -- what is known of the node at a place, and its data
 pub record IsKnownAt (nodes : List HeldNode) (place : ℕ) (known : Known) (count : ℕ) (room room_after : List ℕ) : Type 0 where
   pub node : HeldNode
   pub at : slice_get nodes place ≡ Some node
-  pub is : known ≡ known_of node
+  pub is : known ≡ known_out node
   pub data_are : IsWritten node.stored.body count room room_after
 
 -- there is no node at a place, or no room for the data of the one that is
-abbrev pub IsUnknown : List HeldNode → ℕ → Known → ℕ → List ℕ → Type 0
-IsUnknown nodes place known count room =
+abbrev pub IsNotListed : List HeldNode → ℕ → Known → ℕ → List ℕ → Type 0
+IsNotListed nodes place known count room =
     (length nodes ≤ place)
-    ⊎ ((node : HeldNode) × (slice_get nodes place ≡ Some node) × (known ≡ known_of node) × ExceedsRoom node.stored.body count room)
+    ⊎ ((node : HeldNode) × (slice_get nodes place ≡ Some node) × (known ≡ known_out node) × ExceedsRoom node.stored.body count room)
 
 -- ---- what is kept over a restart
 

@@ -67,8 +67,8 @@ departed_of now told = record {
 }
 
 -- a peer on the link of an endpoint
-abbrev pub peer_of : Neighbour → Peer
-peer_of p = record {
+abbrev pub peer_out : Neighbour → Peer
+peer_out p = record {
   contact = p.contact;
   id = p.node.0;
   endpoint = p.endpoint.0;
@@ -77,8 +77,8 @@ peer_of p = record {
 }
 
 -- what is known of another node
-abbrev pub known_of : HeldNode → Known
-known_of node = record {
+abbrev pub known_out : HeldNode → Known
+known_out node = record {
   came = node.stored.at;
   id = node.id.0;
   number = node.stored.number;
@@ -119,8 +119,8 @@ abbrev pub own_address : Address → OwnAddress
 own_address a = (record { 0 = a.endpoint }, from_be_bytes w128 a.address)
 
 -- and as C gets it
-abbrev pub address_of : OwnAddress → Address
-address_of own = record { endpoint = own.0.0; address = to_be_bytes w128 own.1 }
+abbrev pub address_out : OwnAddress → Address
+address_out own = record { endpoint = own.0.0; address = to_be_bytes w128 own.1 }
 
 -- capabilities, each of which is 0 to 15 (RFC 7788, section 10.1)
 pub record AreCapsInRange (m p h l : ℕ) : Type 0 where

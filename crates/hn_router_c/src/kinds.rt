@@ -1,5 +1,5 @@
 ghost use Rattle.std.specs.Prelude.{◌≡◌};
-ghost use Rattle.hn_router_c.specs.Kinds.{sent_of, assigned_of, note_of, took_number, used_of, elected_of, own_address, address_of, letter_of, departed_of, peer_of, known_of};
+ghost use Rattle.hn_router_c.specs.Kinds.{sent_of, assigned_of, note_of, took_number, used_of, elected_of, own_address, address_out, letter_of, departed_of, peer_out, known_out};
 
 use hn_base::{EpId, Letter, Moment, NodeId};
 use hn_deleg::Delegated;
@@ -195,8 +195,8 @@ pub(crate) fn departed_of(now: Moment, told: &(EpId, Told)) -> Departed
 }
 
 /// A peer. Never allocates.
-pub(crate) fn peer_of(peer: &Neighbour) -> Peer
-    ensures { result ≡ peer_of peer.now }
+pub(crate) fn peer_out(peer: &Neighbour) -> Peer
+    ensures { result ≡ peer_out peer.now }
 {
     Peer {
         contact: peer.contact,
@@ -208,8 +208,8 @@ pub(crate) fn peer_of(peer: &Neighbour) -> Peer
 }
 
 /// What is known of another node. Never allocates.
-pub(crate) fn known_of(node: &HeldNode) -> Known
-    ensures { result ≡ known_of node.now }
+pub(crate) fn known_out(node: &HeldNode) -> Known
+    ensures { result ≡ known_out node.now }
 {
     Known {
         came: node.stored.at,
@@ -285,8 +285,8 @@ pub(crate) fn own_address(address: &Address) -> (EpId, u128)
 }
 
 /// An own address of the router. Never allocates.
-pub(crate) fn address_of(own: &(EpId, u128)) -> Address
-    ensures { result ≡ address_of own.now }
+pub(crate) fn address_out(own: &(EpId, u128)) -> Address
+    ensures { result ≡ address_out own.now }
 {
     Address {
         endpoint: own.0.0,

@@ -2,7 +2,7 @@
 
 ghost use Rattle.std.specs.Prelude.{◌≡◌, ◌≢◌, ◌↔◌, ◌<◌, ◌≤◌, ◌⊎◌, IfSome, IfNone, length, option_copied};
 ghost use Rattle.hn_own.specs.Ports.{port_at};
-ghost use Rattle.hn_router_c.specs.Calls.{peers_on, IsPeerAt, IsKnownAt, IsUnknown, IsWritten, ExceedsRoom};
+ghost use Rattle.hn_router_c.specs.Calls.{peers_on, IsPeerOut, IsKnownAt, IsNotListed, IsWritten, ExceedsRoom};
 
 use crate::happening::{DONE, OUT_OF_RANGE};
 use crate::kinds::{Known, Peer, known_of, peer_of};
@@ -33,7 +33,7 @@ fn peers_on(router: &Router, at: EpId) -> &[Neighbour]
 
 /// The peer at a place.
 fn peer_at(peers: &[Neighbour], place: usize, out: &mut Peer) -> u8
-    ensures peer { result ≡ 0 → IsPeerAt peers.now place out.new }
+    ensures peer { result ≡ 0 → IsPeerOut peers.now place out.new }
     ensures there { result ≡ 0 ↔ place < length peers.now }
     ensures as_before { result ≢ 0 → out.new ≡ out.old }
     ensures status { (result ≡ 0) ⊎ (result ≡ 2) }
@@ -54,7 +54,7 @@ fn known_at(
     room: &mut [u8],
 ) -> u8
     ensures known { result ≡ 0 → IsKnownAt nodes.now place known.new count.new room.old room.new }
-    ensures unknown { result ≢ 0 → IsUnknown nodes.now place known.new count.new room.old }
+    ensures unknown { result ≢ 0 → IsNotListed nodes.now place known.new count.new room.old }
     ensures absent { length nodes.now ≤ place → (known.new ≡ known.old) × (count.new ≡ count.old) }
     ensures as_before { result ≢ 0 → room.new ≡ room.old }
     ensures status { (result ≡ 0) ⊎ (result ≡ 2) }
@@ -95,7 +95,7 @@ pub extern "C" fn hn_router_peer(
     peer: &mut Peer,
 ) -> u8
     ensures kept { router.new.held ≡ router.old.held }
-    ensures peer { result ≡ 0 → IfSome router.old.held (λ kept. IsPeerAt (peers_on (record { 0 = endpoint }) kept.router) place peer.new) }
+    ensures peer { result ≡ 0 → IfSome router.old.held (λ kept. IsPeerOut (peers_on (record { 0 = endpoint }) kept.router) place peer.new) }
     ensures there { IfSome router.old.held (λ kept. result ≡ 0 ↔ place < length (peers_on (record { 0 = endpoint }) kept.router)) }
     ensures none { IfNone router.old.held (result ≡ 2) }
     ensures as_before { result ≢ 0 → peer.new ≡ peer.old }
@@ -136,7 +136,7 @@ pub extern "C" fn hn_router_data(
 ) -> u8
     ensures kept { router.new.held ≡ router.old.held }
     ensures known { result ≡ 0 → IfSome router.old.held (λ kept. IsKnownAt kept.router.table.entries place known.new count.new room.old room.new) }
-    ensures unknown { result ≢ 0 → IfSome router.old.held (λ kept. IsUnknown kept.router.table.entries place known.new count.new room.old) }
+    ensures unknown { result ≢ 0 → IfSome router.old.held (λ kept. IsNotListed kept.router.table.entries place known.new count.new room.old) }
     ensures absent { IfSome router.old.held (λ kept. length kept.router.table.entries ≤ place → (known.new ≡ known.old) × (count.new ≡ count.old)) }
     ensures none { IfNone router.old.held ((result ≡ 2) × (known.new ≡ known.old) × (count.new ≡ count.old)) }
     ensures as_before { result ≢ 0 → room.new ≡ room.old }

@@ -14,7 +14,8 @@ returns-clause-advertised c =
     (record {
       after = status.new.keeper;
       has = c.of.ensures;
-      advertises = λ done. subst (λ (k : Kept). AdvertisesWith (record { 0 = c.args.endpoint }) options k status.new.keeper status.new.count c.args.room.now status.new.room) same (status.ensures.advertises done);
+      advertises = λ done. subst (λ (k : Kept). AdvertisesWith (record { 0 = c.args.endpoint }) options k status.new.keeper status.new.count c.args.room.now status.new.room) same
+          (status.ensures.advertises done);
       refused = λ refused. subst (λ (k : Kept). IsRefusedWith (record { 0 = c.args.endpoint }) options k c.args.count.now status.new.count c.args.room.now) same (status.ensures.refused refused);
       as_before = λ refused. status.ensures.as_before refused ∙ same;
     })

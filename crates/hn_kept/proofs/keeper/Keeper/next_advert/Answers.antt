@@ -6,7 +6,8 @@ use Rattle.hn_kept.proofs.keeper.Keeper.next_advert.Goals as goal
 
 pub returns-clause-next : goal.returns-clause-next
 returns-clause-next c =
-    is_next c.pairs_are_ordered.ensures.total c.args.self.now c.args.at c.args.options c.in_ok-bytes.field-0 c.self.inside.router c.self.inside.departures c.in_ok-infos.departures c.in_ok-advert.advert
+    is_next c.pairs_are_ordered.ensures.total c.args.self.now c.args.at c.args.options c.in_ok-bytes.field-0 c.self.inside.router c.self.inside.departures c.in_ok-infos.departures
+    c.in_ok-advert.advert
     c.moment-now.result c.len.result c.room_beside-room.result c.as_slice.result.now c.in_ok-infos.infos
     (ap (λ (k : Kept). k.router) c.self.view_is) (ap (λ (k : Kept). k.told) c.self.view_is)
     c.is_router.ensures c.in_ok-advert.ensures c.moment-now.ensures c.len.ensures c.room_beside-room.ensures c.as_slice.ensures

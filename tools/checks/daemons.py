@@ -59,10 +59,7 @@ class Captured(Home):
     def start(self):
         for router in self.routers.values():
             router.start()
-        until = time.monotonic() + BEGINS
-        while not os.path.exists(self.routers[1].socket) and time.monotonic() < until:
-            time.sleep(0.05)
-        self.routers[1].tell(f'delegate {FIRST} 7200 3600')
+        self.routers[1].tell_first(f'delegate {FIRST} 7200 3600')
 
     def captured(self):
         """Plays the home, and gives the paths of both captures."""

@@ -167,6 +167,16 @@ class Router:
         must(lines and lines[-1] == 'ok', f'{self.home.name}: router {self.number} answers "{command}" with "{text.strip()[-90:]}"')
         return lines[:-1]
 
+    def tell_first(self, command):
+        """Hands a command to a daemon that was just started, once it listens."""
+        until = time.monotonic() + SETTLES
+        while True:
+            try:
+                return self.tell(command)
+            except OSError as error:
+                must(time.monotonic() < until, f'{self.home.name}: router {self.number} does not listen: {error}')
+                time.sleep(0.1)
+
     def end(self, how):
         self.daemon.send_signal(how)
         status = self.daemon.wait(timeout=PATIENCE)
@@ -348,10 +358,7 @@ class Home:
         os.write(given, b'show\n' * SHOWN)
         for end in (into, commands, given):
             os.close(end)
-        until = begun + SETTLES
-        while not os.path.exists(self.routers[1].socket) and time.monotonic() < until:
-            time.sleep(0.05)
-        self.routers[1].tell(f'delegate {FIRST} 7200 3600')
+        self.routers[1].tell_first(f'delegate {FIRST} 7200 3600')
         self.must_rest('start', begun)
         self.must_hold(AT_REST, 'VmRSS')
 

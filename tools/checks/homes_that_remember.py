@@ -48,16 +48,8 @@ class Home(on_links.Home):
         """Starts routers. The first one of a home is told its delegated prefix again, as a client of DHCPv6 does."""
         for number in numbers:
             self.routers[number].start()
-        if 1 not in numbers:
-            return
-        until = time.monotonic() + on_links.SETTLES
-        while True:
-            try:
-                self.routers[1].tell(f'delegate {on_links.FIRST} 7200 3600')
-                return
-            except OSError as error:      # it does not listen yet
-                must(time.monotonic() < until, f'{self.name}: router 1 does not listen: {error}')
-                time.sleep(0.1)
+        if 1 in numbers:
+            self.routers[1].tell_first(f'delegate {on_links.FIRST} 7200 3600')
 
     def prefixes(self):
         """The prefix that the host of each link prefers."""

@@ -5,7 +5,7 @@ ghost use Rattle.hn_kept.specs.Chosen.{MakesUla, ChoosesAddresses};
 ghost use Rattle.hn_router_c.specs.Calls.{is_outside, Became, IsOwnAddressAt};
 
 use crate::happening::{DONE, NO_MEMORY, OUT_OF_RANGE, is_outside};
-use crate::kinds::{Address, address_of};
+use crate::kinds::{Address, address_out};
 use hn_base::{EpId, Moment};
 use hn_handle::Handle;
 use hn_kept::Keeper;
@@ -100,7 +100,7 @@ fn own_address_at(all: &[(EpId, u128)], place: usize, out: &mut Address) -> u8
     let Some(own) = all.get(place) else {
         return OUT_OF_RANGE;
     };
-    *out = address_of(own);
+    *out = address_out(own);
     DONE
 }
 

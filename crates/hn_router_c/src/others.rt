@@ -5,7 +5,7 @@ ghost use Rattle.hn_own.specs.Ports.{port_at};
 ghost use Rattle.hn_router_c.specs.Calls.{peers_on, IsPeerOut, IsKnownAt, IsNotListed, IsWritten, ExceedsRoom};
 
 use crate::happening::{DONE, OUT_OF_RANGE};
-use crate::kinds::{Known, Peer, known_of, peer_of};
+use crate::kinds::{Known, Peer, known_out, peer_out};
 use crate::reports::write;
 use hn_base::EpId;
 use hn_dncp::{Neighbour, Port};
@@ -41,7 +41,7 @@ fn peer_at(peers: &[Neighbour], place: usize, out: &mut Peer) -> u8
     let Some(peer) = peers.get(place) else {
         return OUT_OF_RANGE;
     };
-    *out = peer_of(peer);
+    *out = peer_out(peer);
     DONE
 }
 
@@ -62,7 +62,7 @@ fn known_at(
     let Some(node) = nodes.get(place) else {
         return OUT_OF_RANGE;
     };
-    *known = known_of(node);
+    *known = known_out(node);
     if write(node.stored.body.bytes(), count, room) {
         DONE
     } else {

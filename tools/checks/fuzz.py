@@ -40,7 +40,7 @@ def check_right(folder):
         must(status == 0 and not messages, f'fuzz: status {status}: {text[-300:]} {messages[-200:]}')
         tables.append({form: columns[:2] for form, columns in rows(text).items()})
     must(tables[0] == tables[1], f'one seed, and two tables: {tables}')
-    must(len(tables[0]) == 11 and not os.path.exists(os.path.join(folder, 'none')), f'the table has {list(tables[0])}')
+    must(len(tables[0]) == 12 and not os.path.exists(os.path.join(folder, 'none')), f'the table has {list(tables[0])}')
     return int(tables[0]['all'][0])
 
 

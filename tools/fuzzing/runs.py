@@ -192,12 +192,13 @@ def refusal(text):
 
 
 def said_wrong(program, status, messages):
-    """What is wrong of standard error; the usage may have more lines than one."""
+    """What is wrong of standard error. The usage comes after the version, and may have more lines than one."""
     lines = messages.decode('utf-8', 'replace').splitlines()
     if status == 0:
         return [f'it said {lines[:2]} with status 0'] if lines else []
     if status == 1:
-        return [] if lines and lines[0].startswith(f'usage: {program} ') else [f'no usage: {lines[:2]}']
+        has_usage = lines and lines[0].startswith(f'{program} ') and lines[1:2] and lines[1].startswith(f'usage: {program} ')
+        return [] if has_usage else [f'no version and usage: {lines[:2]}']
     good = len(lines) == 1 and lines[0].startswith(program + ': ') and REASONS[status] in lines[0]
     return [] if good else [f'with status {status} it said {lines[:3]}']
 

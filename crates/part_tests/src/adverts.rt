@@ -1,8 +1,5 @@
 use crate::cases::bytes;
-use hn_advert::{
-    HEADER_CUT, Info, OPTION_CUT, OTHER_CODE, OTHER_SIZE, OTHER_TYPE, PREFIX_TOO_LONG, RaFault,
-    ReadFault, read,
-};
+use hn_advert::{Info, read};
 use hn_prefix::Prefix;
 use std::alloc::Global;
 use std::process::Abort;
@@ -65,90 +62,5 @@ fn a_message_is_written(rt: HostRuntime) -> Result<(), Fail> {
     let message = bytes(rt.alloc(), ONE_PREFIX)?;
     let written = hn_advert::bytes(rt.alloc(), &read(rt.alloc(), &message)?)?;
     assert!(rt; written.as_slice() == message.as_slice());
-    Ok(())
-}
-
-/// The four bytes of a case.
-fn case_of(alloc: Global, digits: &str) -> Result<[u8; 4], Fail> {
-    match *bytes(alloc, digits)? {
-        [len, at, value, place] => Ok([len, at, value, place]),
-        _ => Err("a case".into()),
-    }
-}
-
-/// The fault of a message of which this many bytes are there, and of which the one at a place is changed.
-fn fault_of(alloc: Global, digits: &str, len: u8, at: u8, value: u8) -> Result<RaFault, Fail> {
-    let mut message = bytes(alloc, digits)?;
-    if let Some(byte) = message.get_mut(usize::from(at)) {
-        *byte = value;
-    }
-    message.truncate(usize::from(len));
-    match read(alloc, &message) {
-        Err(ReadFault::Ra(fault)) => Ok(fault),
-        _ => Err("no fault".into()),
-    }
-}
-
-/// Each case is four bytes: how many bytes of a message there are, the place of one that is changed, its new value, and the
-/// place of the fault.
-fn are_refused(
-    rt: &impl Abort,
-    alloc: Global,
-    digits: &str,
-    cases: &str,
-    why: u8,
-) -> Result<(), Fail> {
-    for case in cases.split(',') {
-        let [len, at, value, place] = case_of(alloc, case)?;
-        let fault = fault_of(alloc, digits, len, at, value)?;
-        assert!(rt;
-            fault.place == usize::from(place) && fault.why == why,
-            "{case}"
-        );
-    }
-    Ok(())
-}
-
-#[test]
-fn faults(rt: HostRuntime) -> Result<(), Fail> {
-    are_refused(
-        &rt,
-        rt.alloc(),
-        ONE_PREFIX,
-        "0F00860F,00008600,0F00850F",
-        HEADER_CUT,
-    )?;
-    are_refused(&rt, rt.alloc(), ONE_PREFIX, "10008500", OTHER_TYPE)?;
-    are_refused(&rt, rt.alloc(), ONE_PREFIX, "30010101", OTHER_CODE)?;
-    are_refused(
-        &rt,
-        rt.alloc(),
-        ONE_PREFIX,
-        "30110510,30110010,2F128110,11100310",
-        OPTION_CUT,
-    )?;
-    are_refused(&rt, rt.alloc(), ONE_PREFIX, "30110210", OTHER_SIZE)?;
-    are_refused(&rt, rt.alloc(), ONE_PREFIX, "30128112", PREFIX_TOO_LONG)?;
-    are_refused(
-        &rt,
-        rt.alloc(),
-        OTHERS_BETWEEN,
-        "60110010,60110B10,60190018,39380538,60390038,60390638,41400340,60410540",
-        OPTION_CUT,
-    )?;
-    are_refused(
-        &rt,
-        rt.alloc(),
-        OTHERS_BETWEEN,
-        "60100310,60190318,60380338,60410340",
-        OTHER_SIZE,
-    )?;
-    are_refused(
-        &rt,
-        rt.alloc(),
-        OTHERS_BETWEEN,
-        "601AFF1A,60428142",
-        PREFIX_TOO_LONG,
-    )?;
     Ok(())
 }

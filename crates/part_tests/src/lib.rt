@@ -1,5 +1,5 @@
-//! Tests of the crates below the router: of texts, hashes, words, messages, tables, clocks and sockets. They say what no
-//! contract says, and compare with values from outside.
+//! Tests of the crates below the router: of texts, hashes, words, messages, clocks and sockets. They say what no contract says,
+//! and compare with values from outside.
 #![tactic(auto)]
 
 #[cfg(test)]
@@ -11,22 +11,10 @@ mod cases;
 #[cfg(test)]
 mod clocks;
 #[cfg(test)]
-mod data;
-#[cfg(test)]
 mod hashes;
 #[cfg(test)]
 mod io;
 #[cfg(test)]
 mod loopback;
-#[cfg(test)]
-mod node_files;
-#[cfg(test)]
-mod ports;
-#[cfg(test)]
-mod prefixes;
-#[cfg(test)]
-mod scripts;
-#[cfg(test)]
-mod tables;
 #[cfg(test)]
 mod wires;

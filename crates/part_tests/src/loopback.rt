@@ -29,22 +29,6 @@ fn a_datagram_goes_over_loopback(rt: HostRuntime) -> Result<(), Fail> {
     Ok(())
 }
 
-/// The first two bytes that the wires sent wait still.
-#[test]
-fn two_wires_send_to_each_other(rt: HostRuntime) -> Result<(), Fail> {
-    let (mut one, port, next) = first_send(&rt).ok_or("no two ports are free")?;
-    let (mut other, its_port, its_next) = first_send(&rt).ok_or("no two more ports are free")?;
-    assert!(rt; sent_two(&mut one, port, its_next, 7) == Ok(()));
-    assert!(rt; sent(&mut other, its_port, next, 8) == Ok(()));
-    assert!(rt; taken(&mut other, its_next) == (Ok(Some((2, its_port))), [5, 6]));
-    assert!(rt; taken(&mut other, its_next) == (Ok(Some((2, port))), [7, 8]));
-    assert!(rt; taken(&mut other, its_next).0 == Ok(None));
-    assert!(rt; taken(&mut one, next) == (Ok(Some((2, port))), [5, 6]));
-    assert!(rt; taken(&mut one, next) == (Ok(Some((1, its_port))), [8, 9]));
-    assert!(rt; one.faults == 0 && other.faults == 0);
-    Ok(())
-}
-
 /// The system refuses a send to port 0, and a datagram to a port that nobody has bound it drops without a sign.
 #[test]
 fn a_send_that_the_system_refuses_is_a_fault(rt: HostRuntime) -> Result<(), Fail> {

@@ -17,19 +17,18 @@ pub fn words(alloc: Global, line: &str) -> Result<Vec<String>, AllocError> {
     Ok(words)
 }
 
-/// Runs the program over a wire: its status, and how many events the world has that it came to, if it has one.
+/// Runs the program over a wire: its status, and whether it came to a world.
 pub fn play_over<S: Source, K: Sink, W: Wire>(
     alloc: Global,
     line: &str,
     source: &mut S,
     sink: &mut K,
     wire: &mut W,
-) -> Result<(u8, Option<usize>), AllocError> {
+) -> Result<(u8, bool), AllocError> {
     let words = words(alloc, line)?;
     let mut clock = MemClock::new(vec![in alloc; 0]?);
     let outcome = run(alloc, &words, source, sink, wire, &mut clock);
-    let events = outcome.world.map(|world| world.trace().len());
-    Ok((outcome.status, events))
+    Ok((outcome.status, outcome.world.is_some()))
 }
 
 /// The same over a wire on which nothing waits.
@@ -38,7 +37,7 @@ fn play<S: Source, K: Sink>(
     line: &str,
     source: &mut S,
     sink: &mut K,
-) -> Result<(u8, Option<usize>), AllocError> {
+) -> Result<(u8, bool), AllocError> {
     let mut wire = MemWire::new(alloc, Vec::new(alloc));
     play_over(alloc, line, source, sink, &mut wire)
 }
@@ -160,32 +159,12 @@ fn each_read_and_write_fails_in_turn(rt: HostRuntime) -> Result<(), Fail> {
 }
 
 #[test]
-fn a_soak_has_one_text(rt: HostRuntime) -> Result<(), Fail> {
-    let alloc = rt.alloc();
-    let mut source = MemSource::new(b"unread".to_vec(alloc)?, Vec::new(alloc));
-    let mut sink = MemSink::new(alloc, Vec::new(alloc));
-    let mut again = MemSink::new(alloc, Vec::new(alloc));
-    let first = play(alloc, "hncp soak 6 1", &mut source, &mut sink)?;
-    let second = play(alloc, "hncp soak 6 1", &mut source, &mut again)?;
-    assert!(rt; first.0 == DONE && first == second);
-    assert!(rt; sink.held() == again.held());
-    let text = str::from_utf8(sink.held()).map_err(|_| "text")?;
-    let last = text.lines().last().ok_or("a line")?;
-    assert!(rt; last.starts_with("show r6 id=00000006 number="), "{last}");
-    assert!(rt;
-        source.read(&mut [0; 8]) == Ok(6),
-        "the source is as before"
-    );
-    Ok(())
-}
-
-#[test]
 fn a_write_of_a_soak_fails(rt: HostRuntime) -> Result<(), Fail> {
     let alloc = rt.alloc();
     let mut source = MemSource::new(Vec::new(alloc), Vec::new(alloc));
     let mut sink = MemSink::new(alloc, vec![in alloc; 1]?);
-    let (status, events) = play(alloc, "hncp soak 2 1", &mut source, &mut sink)?;
+    let (status, has_world) = play(alloc, "hncp soak 2 1", &mut source, &mut sink)?;
     assert!(rt; status == SINK_FAILED, "{status}");
-    assert!(rt; events.is_some() && sink.held().is_empty());
+    assert!(rt; has_world && sink.held().is_empty());
     Ok(())
 }

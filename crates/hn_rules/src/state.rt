@@ -41,24 +41,61 @@ pub struct State {
 }
 
 impl State {
+    /// What it publishes and holds, with one owner more.
+    fn share_own(
+        &self,
+    ) -> Result<(Shared<OwnData>, Shared<OwnPrefixes>, Shared<HeldPairs>), NoMemory>
+        ensures own { IfOk result (λ parts. parts.0 ≡ self.now.own) }
+        ensures delegated { IfOk result (λ parts. parts.1 ≡ self.now.delegated) }
+        ensures held { IfOk result (λ parts. parts.2 ≡ self.now.held) }
+    {
+        let own = self.own.clone()?;
+        let delegated = self.delegated.clone()?;
+        let held = self.held.clone()?;
+        Ok((own, delegated, held))
+    }
+
+    /// Its endpoints and addresses, with one owner more.
+    fn share_ports(&self) -> Result<(Shared<Ports>, Shared<Addresses>), NoMemory>
+        ensures ports { IfOk result (λ parts. parts.0 ≡ self.now.ports) }
+        ensures addresses { IfOk result (λ parts. parts.1 ≡ self.now.addresses) }
+    {
+        let ports = self.ports.clone()?;
+        let addresses = self.addresses.clone()?;
+        Ok((ports, addresses))
+    }
+
+    /// What it knows of other nodes, with one owner more.
+    fn share_nodes(&self) -> Result<(Shared<Table>, Shared<NodeIds>), NoMemory>
+        ensures table { IfOk result (λ parts. parts.0 ≡ self.now.table) }
+        ensures reach { IfOk result (λ parts. parts.1 ≡ self.now.reach) }
+    {
+        let table = self.table.clone()?;
+        let reach = self.reach.clone()?;
+        Ok((table, reach))
+    }
+
     /// This state. It shares the memory of its large parts.
     pub(crate) fn copy(&self) -> Result<State, NoMemory>
         ensures { IfOk result (λ copy. copy ≡ self.now) }
     {
+        let (own, delegated, held) = self.share_own()?;
+        let (ports, addresses) = self.share_ports()?;
+        let (table, reach) = self.share_nodes()?;
         Ok(State {
             id: self.id,
             number: self.number,
             moment: self.moment,
             caps: self.caps,
-            own: self.own.clone()?,
-            delegated: self.delegated.clone()?,
-            held: self.held.clone()?,
+            own,
+            delegated,
+            held,
             claimed: self.claimed,
             private: self.private,
-            ports: self.ports.clone()?,
-            addresses: self.addresses.clone()?,
-            table: self.table.clone()?,
-            reach: self.reach.clone()?,
+            ports,
+            addresses,
+            table,
+            reach,
             net: self.net,
             due: self.due,
         })

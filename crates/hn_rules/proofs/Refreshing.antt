@@ -1,20 +1,20 @@
 -- A refresh, and the words that its steps take.
 use Rattle.hn_base.proofs.Names.{◌≡◌, ◌≢◌, ◌∙◌, ℕ, List, [], ◌∷◌, ◌++◌, Option, Some, ap, refl, sym, subst, inl, inr, Drew}
-use Rattle.hn_rules.proofs.Names.{EpId, Interval, interval_from, Port, Publication, Running, PlainData, IsOwnData, port_at, AtPort, Ran, with_words, with_port, own_items, IsPortReset, Publishes}
+use Rattle.hn_rules.proofs.Names.{EpId, Interval, interval_from, Port, Running, PlainData, IsOwnData, port_at, AtPort, Ran, with_words, with_port, own_items, IsPortReset, Publishes}
 use Rattle.hn_rules.proofs.Names.{IsPublishing, IsReaching, IsHashing, IsRefresh}
 use Rattle.hn_rules.proofs.AtPorts.{at_port}
 
--- what was written is a publication
-pub publishes : (number : ℕ) (body : List ℕ) (own : PlainData) (published : List Publication) (before : Running)
+-- what was entered, with the present number and own node data, is a publication
+pub publishes : (number : ℕ) (body : List ℕ) (own : PlainData) (before entered : Running)
     → IsOwnData own → own.items ≡ own_items before.state → own.born ≡ before.state.moment → body ≡ own.body
-    → published ≡ before.done.published ++ record { id = before.state.id; number = number; body = body } ∷ []
-    → Publishes number before (record before { state = record before.state { number = number; own = own }; done = record before.done { published = published } })
-publishes number body own published before is_data items present same pushed = record {
+    → entered ≡ record before { done = record before.done { published = before.done.published ++ record { id = before.state.id; number = number; body = body } ∷ [] } }
+    → Publishes number before (record entered { state = record entered.state { number = number; own = own } })
+publishes number body own before entered is_data items present same is = record {
   own = own;
   data_is = is_data;
   items_are = items;
   born_is = present;
-  gives = rw (pushed, same) refl;
+  gives = rw (is, same) refl;
 }
 
 -- a publication takes no word

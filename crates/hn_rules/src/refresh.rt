@@ -1,6 +1,6 @@
 //! A refresh: publish where due, reachability, moments of loss, the network state hash, resets of Trickle.
 
-ghost use Rattle.std.specs.Prelude.{◌≡◌, ◌≤◌, ◌<◌, ◌-◌, ◌^◌, ◌↔◌, true, false, None, All, length, IsTrue, IfOk, OnOk};
+ghost use Rattle.std.specs.Prelude.{◌≡◌, ◌≤◌, ◌<◌, ◌-◌, ◌^◌, ◌++◌, ◌↔◌, [], ◌∷◌, true, false, None, All, length, IsTrue, IfOk, OnOk};
 ghost use Rattle.hn_own.specs.Own.{AreFew};
 ghost use Rattle.hn_base.specs.Rules.{Each};
 ghost use Rattle.hn_rules.specs.Rules.{Ran, AtPort};
@@ -16,6 +16,7 @@ use crate::reaching::{Touched, say_same_peers};
 use crate::running::Running;
 use crate::state::State;
 use hn_base::{EpId, Moment, NoMemory, NodeIds, Shared};
+use hn_data::NodeData;
 use hn_graph::{AGE_LIMIT, reachability_stays, same_links_reach};
 use hn_hash::{network_of, same_hash};
 use hn_io::Draw;
@@ -90,6 +91,22 @@ impl State {
 }
 
 impl Running {
+    /// Enters node data as published with a sequence number.
+    fn enter(&mut self, number: u32, body: &NodeData) -> Result<(), NoMemory>
+        ensures { OnOk result (self.new ≡ record self.old {
+          done = record self.old.done {
+            published = self.old.done.published ++ record { id = self.old.state.id; number = number; body = body.now } ∷ [];
+          };
+        }) }
+    {
+        let body = body.share()?;
+        self.done.published.push(Publication {
+            id: self.state.id,
+            number,
+            body,
+        })
+    }
+
     /// Publishes own items with a sequence number: whether they say the same peers as before.
     fn publish_items(
         &mut self,
@@ -104,11 +121,7 @@ impl Running {
     {
         let own = OwnData::new(alloc, items, self.state.moment.get())?;
         let same = say_same_peers(self.state.own.get().body(), own.body());
-        self.done.published.push(Publication {
-            id: self.state.id,
-            number,
-            body: own.body().share()?,
-        })?;
+        self.enter(number, own.body())?;
         self.state.number = number;
         self.state.own = Shared::new(alloc, own)?;
         Ok(same)

@@ -6,12 +6,12 @@ use Rattle.hn_rules.proofs.running.Running.publish_items.Goals as goal
 pub returns-clause-publishes : goal.returns-clause-publishes
 returns-clause-publishes c =
     let own = c.in_ok-self.field-0 in
-    publishes c.args.number c.in_ok-share.field-0 own c.push.new.self c.args.self.now
+    publishes c.args.number c.body-3.result.now own c.args.self.now c.enter.new.self
     (subst IsOwnData (c.own.view_is ∙ sym c.in_ok-self.ensures) c.own.invariant)
     (ap (λ (d : PlainData). d.items) c.in_ok-self.ensures ∙ c.in_ok-own.ensures.items ∙ c.requires.items)
     (ap (λ (d : PlainData). d.born) c.in_ok-self.ensures ∙ c.in_ok-own.ensures.born ∙ c.get.ensures.moment)
-    (c.in_ok-share.ensures ∙ c.body-3.ensures.body ∙ ap (λ (d : PlainData). d.body) (sym c.in_ok-self.ensures))
-    c.in_ok-push.ensures.ok
+    (c.body-3.ensures.body ∙ ap (λ (d : PlainData). d.body) (sym c.in_ok-self.ensures))
+    c.in_ok-enter.ensures
 
 pub returns-clause-peers : goal.returns-clause-peers
 returns-clause-peers c is =

@@ -19,3 +19,4 @@ pub mod Versions
 pub mod WordBytes
 pub mod WordFaults
 mod FittingValues
+mod DenseScripts

@@ -14,7 +14,7 @@ limited_fields (Run t step) (a ∷ []) zip = absurd zip.1
 limited_fields (Run t step) (a ∷ b ∷ words) zip = (zip.0.high, zip.1.0.high)
 limited_fields _ words zip = tt
 
-spelled : (version : Version) (line : Line) (words : List (List ℕ)) → Gives (of_version version) (Some line) words → IsOfVersion version line × IsLimited line
+pub spelled : (version : Version) (line : Line) (words : List (List ℕ)) → Gives (of_version version) (Some line) words → IsOfVersion version line × IsLimited line
 spelled version line [] gives = absurd gives.0
 spelled version line (word ∷ words) gives = (gives.0.0, limited_fields line words gives.0.2)
 

@@ -127,7 +127,7 @@ printed_entry print version line of h = record {
       ((of, refl, printed_fields print (line_spelling line).fields h.in_range), letters_no_hash (line_spelling line).first (first_letters line));
 }
 
-plain_lacks : (text : List ℕ) → IsPlain text → Lacks 10 text
+pub plain_lacks : (text : List ℕ) → IsPlain text → Lacks 10 text
 plain_lacks = Lacks-from_fact (λ c. (32 ≤ c) × (c ≤ 126)) 10 (λ plain. omega arith)
 
 -- the texts of numbered lines
@@ -154,13 +154,13 @@ texts_lack print version [] h = tt
 texts_lack print version (line ∷ lines) h =
     (plain_lacks (line_text line.1) (printed_entry print version line.1 h.0.0 h.1.0).plain, texts_lack print version lines (h.0.1, h.1.1))
 
-ended_lines : (texts : List (List ℕ)) → AllByRecursion (Lacks 10) texts → lines_of (ended texts) ≡ texts
+pub ended_lines : (texts : List (List ℕ)) → AllByRecursion (Lacks 10) texts → lines_of (ended texts) ≡ texts
 ended_lines [] h = lines_none [] refl
 ended_lines (text ∷ texts) h =
     lines_cut (ended (text ∷ texts)) text (ended texts) h.0 (append_assoc text (10 ∷ []) (ended texts))
     ∙ ap (λ (found : List (List ℕ)). text ∷ found) (ended_lines texts h.1)
 
-first_lacks : (version : Version) → Lacks 10 (first_line version)
+pub first_lacks : (version : Version) → Lacks 10 (first_line version)
 first_lacks version = plain_lacks (first_line version) (plain_first version)
 
 pub printed_script : PrefixTextIsRead → PrintedIsRead
@@ -177,7 +177,7 @@ words_are : (first : List ℕ) (fields : List Field) → join_with_byte 32 (firs
 words_are first [] = sym (append-nil first)
 words_are first (field ∷ fields) = refl
 
-ended-push : (texts : List (List ℕ)) (text : List ℕ) → ended (texts ++ text ∷ []) ≡ ended texts ++ text ++ 10 ∷ []
+pub ended-push : (texts : List (List ℕ)) (text : List ℕ) → ended (texts ++ text ∷ []) ≡ ended texts ++ text ++ 10 ∷ []
 ended-push [] text = append-nil (text ++ 10 ∷ [])
 ended-push (first ∷ texts) text =
     ap (λ (rest : List ℕ). (first ++ 10 ∷ []) ++ rest) (ended-push texts text) ∙ simp append_assoc

@@ -10,7 +10,7 @@ use Rattle.hn_script.proofs.Entries.{no_line_fault}
 abbrev pub IsTold : {A : Type 0} → Language A → Type 0
 IsTold {A} language = (line other : A) (word : List ℕ) (words : List (List ℕ)) → SpellsLine language line (word ∷ words) → SpellsLine language other (word ∷ words) → line ≡ other
 
-same_given : {A : Type 0} (language : Language A) → IsTold language → (a b : Option A) (words : List (List ℕ)) → Gives language a words → Gives language b words → a ≡ b
+pub same_given : {A : Type 0} (language : Language A) → IsTold language → (a b : Option A) (words : List (List ℕ)) → Gives language a words → Gives language b words → a ≡ b
 same_given language told None None words h k = refl
 same_given language told None (Some line) words h k = absurd (k.1 h)
 same_given language told (Some line) None words h k = absurd (h.1 k)

@@ -1,12 +1,12 @@
 -- Bytes are one script, or have one first fault.
 use Rattle.hn_base.proofs.Names.{◌≡◌, ◌≢◌, ◌≤◌, ℕ, List, [], ◌∷◌, length, slice_index, inl, inr, refl, sym, ap, ◌∙◌, subst, arith, OnCause, NoCause}
-use Rattle.hn_script.proofs.Names.{Version, One, tail_is, PrefixTextIsOfOne, AreLines, FaultFrom, numbered, IsPlain, of_version, first_line, ScriptFault, Line}
+use Rattle.hn_script.proofs.Names.{Version, One, tail_is, PrefixTextIsOfOne, AreLines, FaultFrom, numbered, IsPlain, of_version, first_line, words_of, ScriptFault, Line}
 use Rattle.hn_base.specs.declared.version.Version.TheVariants.{Two}
 use Rattle.hn_base.proofs.FrontOfList.{head_is}
-use Rattle.hn_script.specs.Laws.{AtMostOneScript, AtMostOneFault, FaultExcludesScript}
+use Rattle.hn_script.specs.Laws.{AtMostOneScript, AtMostOneEntry, AtMostOneFault, FaultExcludesScript}
 use Rattle.hn_script.specs.Script.{FaultOfLines, FirstLineFault}
 use Rattle.hn_script.proofs.Entries.{no_text_fault}
-use Rattle.hn_script.proofs.SameEntries.{same_entries, no_fault_from, sole_none, sole_else, sole_text, same_fault, one_fault_from, one_bytes_fault}
+use Rattle.hn_script.proofs.SameEntries.{same_given, same_entries, no_fault_from, sole_none, sole_else, sole_text, same_fault, one_fault_from, one_bytes_fault}
 use Rattle.hn_script.proofs.SameFields.{same_line}
 
 -- ---- first lines
@@ -47,6 +47,9 @@ one_script one bytes script other h k =
     let there = subst (λ v. AreLines (of_version v) 2 h.texts other.lines) (sym version) (subst (λ found. AreLines (of_version other.version) 2 found other.lines) (sym texts) k.lines) in
     let lines : script.lines ≡ other.lines = same_lines one script.version h.texts script.lines other.lines h.lines there in
     rw (version, lines) refl
+
+pub one_entry : PrefixTextIsOfOne → AtMostOneEntry
+one_entry one version text entry other h k = same_given (of_version version) (same_line one version) entry other (words_of text) h.gives k.gives
 
 -- ---- no fault of a script
 

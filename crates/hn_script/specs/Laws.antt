@@ -1,14 +1,16 @@
 -- What holds of scripts, of node files, and of their faults.
-use Rattle.std.specs.Prelude.{◌≡◌, ℕ, ◌+◌, ◌^◌, ◌<◌, ◌≤◌, ◌↔◌, List, [], ◌∷◌, length, All, Option, None, Some}
+use Rattle.std.specs.Prelude.{◌≡◌, ℕ, ◌+◌, ◌^◌, ◌<◌, ◌≤◌, ◌↔◌, List, [], ◌∷◌, ◌++◌, length, All, Option, None, Some}
 use Rattle.std.specs.List.{AllByRecursion}
 use Rattle.hn_base.specs.Byte.{IsByte}
 use Rattle.hn_base.specs.Prefix.{IsPrefix}
+use Rattle.hn_base.specs.declared.version.Version.{Version}
 use Rattle.hn_script.specs.Field.{IsFieldInRange}
-use Rattle.hn_script.specs.Entries.{most_bytes}
-use Rattle.hn_script.specs.Line.{line_spelling, IsOfVersion, line_text}
+use Rattle.hn_script.specs.Entries.{most_bytes, IsEntry}
+use Rattle.hn_script.specs.Line.{line_spelling, IsOfVersion, line_text, of_version}
 use Rattle.hn_script.specs.NodeFile.{IsNodeFile, IsFirstNodeFault}
-use Rattle.hn_script.specs.Script.{IsScript, IsFirstFault, script_text}
+use Rattle.hn_script.specs.Script.{IsScript, IsDenseScript, IsFirstFault, begun_script, script_text, with_line}
 use Rattle.hn_script.specs.Soak.{soak_text}
+use Rattle.hn_script.specs.Texts.{line_feed}
 use Rattle.hn_script.specs.declared.fault.ScriptFault.{ScriptFault}
 use Rattle.hn_script.specs.declared.line.Line.{Line}
 use Rattle.hn_script.specs.declared.line.Line.TheVariants.{Router, Attach, External, Private, Time, Run, Inject}
@@ -18,6 +20,12 @@ use Rattle.hn_script.specs.declared.script.Script.{Script}
 -- bytes are at most one script
 abbrev pub AtMostOneScript : Type 0
 AtMostOneScript = (bytes : List ℕ) (script other : Script) → IsScript script bytes → IsScript other bytes → script ≡ other
+
+-- the text of a line gives at most one thing: a line of the version, or nothing
+abbrev pub AtMostOneEntry : Type 0
+AtMostOneEntry =
+    (version : Version) (text : List ℕ) (entry other : Option Line) → IsEntry (of_version version) entry text
+    → IsEntry (of_version version) other text → entry ≡ other
 
 -- bytes have at most one first fault
 abbrev pub AtMostOneFault : Type 0
@@ -52,6 +60,25 @@ PrintedIsRead =
     (script : Script) → AllByRecursion (λ line. IsOfVersion script.version line.1) script.lines
     → AllByRecursion (λ line. IsPrintable line.1) script.lines → length (script_text script) ≤ most_bytes
     → IsScript (record { version = script.version; lines = renumbered 2 script.lines }) (script_text script)
+
+-- a dense script is begun by its first line
+abbrev pub DenseBegins : Type 0
+DenseBegins = (version : Version) → IsDenseScript (begun_script version) (script_text (begun_script version))
+
+-- with the text of a line more, and an LF, it has this line more
+abbrev pub DenseGoesOn : Type 0
+DenseGoesOn =
+    (script : Script) (bytes text : List ℕ) (line : Line) → IsDenseScript script bytes
+    → IsEntry (of_version script.version) (Some line) text → IsDenseScript (with_line line script) (bytes ++ text ++ line_feed ∷ [])
+
+-- it is a script, if its bytes are not too many
+abbrev pub DenseIsAScript : Type 0
+DenseIsAScript =
+    (script : Script) (bytes : List ℕ) → IsDenseScript script bytes → length bytes ≤ most_bytes → IsScript script bytes
+
+-- it has fewer lines than bytes
+abbrev pub DenseHasFewLines : Type 0
+DenseHasFewLines = (script : Script) (bytes : List ℕ) → IsDenseScript script bytes → length script.lines < length bytes
 
 -- no endpoint is attached under number 0, and no moment or span of time is above 2^48
 abbrev pub IsLimited : Line → Type 0

@@ -53,3 +53,22 @@ impl From<NoMemory> for ParseFault {
         ParseFault::NoMemory
     }
 }
+
+/// Why a line was not read.
+#[derive(Clone, Copy)]
+pub enum ReadFault {
+    /// The text is no line, by this code.
+    Code(u8),
+    /// Out of memory, and nothing else.
+    NoMemory,
+}
+
+impl From<NoMemory> for ReadFault {
+    ghost use Rattle.hn_script.specs.declared.fault.ReadFault.TheVariants as read_fault;
+
+    ghost from_gives = { λ _ fault. fault ≡ read_fault.NoMemory };
+
+    fn from(_error: NoMemory) -> ReadFault {
+        ReadFault::NoMemory
+    }
+}

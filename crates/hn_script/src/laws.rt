@@ -3,6 +3,7 @@
 ghost use Rattle.hn_script.specs.Laws.{AtMostOneScript, AtMostOneFault, FaultExcludesScript, LinesAreOfVersion, PrintedIsRead};
 ghost use Rattle.hn_script.specs.Laws.{ScriptIsLimited, ValuesFit, SoakIsAScript, AtMostOneNodeFile, AtMostOneNodeFault};
 ghost use Rattle.hn_script.specs.Laws.{FaultExcludesNodeFile};
+ghost use Rattle.hn_script.specs.Laws.{AtMostOneEntry, DenseBegins, DenseGoesOn, DenseHasFewLines, DenseIsAScript};
 
 use hn_prefix::{read_form_is_of_one, written_form_is_read};
 
@@ -12,6 +13,23 @@ pub fn script_is_unique()
 {
     read_form_is_of_one();
 }
+
+/// The text of a line gives one thing, so that `read_line` has one answer: one line of its version, or nothing where it is
+/// skipped.
+pub fn line_is_unique()
+    ensures { AtMostOneEntry }
+{
+    read_form_is_of_one();
+}
+
+/// A script may be written line by line, from its first line on. Where none of its lines is skipped, and a text is a line of its
+/// version, its bytes with this text and an LF are the script with this line at its end. It has fewer lines than bytes.
+pub fn lines_are_added()
+    ensures begins { DenseBegins }
+    ensures goes_on { DenseGoesOn }
+    ensures is_a_script { DenseIsAScript }
+    ensures few { DenseHasFewLines }
+{}
 
 /// Bytes have at most one first fault.
 pub fn fault_is_unique()

@@ -23,15 +23,15 @@ mod version;
 mod words;
 
 pub use code::{LARGE, MALFORMED};
-pub use fault::{ParseFault, ScriptFault};
+pub use fault::{ParseFault, ReadFault, ScriptFault};
 pub use fields::{hex_word, number_in};
 pub use laws::{
-    fault_excludes_node_file, fault_excludes_script, fault_is_unique, lines_are_of_version,
-    node_fault_is_unique, node_file_is_unique, printed_is_read, script_is_limited,
-    script_is_unique, soak_is_a_script, values_fit,
+    fault_excludes_node_file, fault_excludes_script, fault_is_unique, line_is_unique,
+    lines_are_added, lines_are_of_version, node_fault_is_unique, node_file_is_unique,
+    printed_is_read, script_is_limited, script_is_unique, soak_is_a_script, values_fit,
 };
 pub use line::{How, Line, letter_text};
 pub use node_file::{NodeLine, parse_node_file};
-pub use script::{SOURCE_LIMIT, Script, first_fault, parse, print};
+pub use script::{SOURCE_LIMIT, Script, first_fault, parse, print, read_line};
 pub use soak::soak_script;
 pub use texts::next_line;

@@ -180,7 +180,7 @@ fn read_unnamed(word: &str, rest: &[u8]) -> Result<Line, u8>
 }
 
 /// The line of this first word and the words in `rest`, unless the word is `inject`.
-fn read_line(word: &str, rest: &[u8]) -> Result<Line, u8>
+fn read_other(word: &str, rest: &[u8]) -> Result<Line, u8>
     requires { word.now ≢ codes "inject" }
     ensures { ReadsLine every_line word.now (words_of rest.now) result }
 {
@@ -220,7 +220,7 @@ fn read_known<'a>(word: &str, rest: &'a [u8]) -> Result<Draft<'a>, u8>
     if word == "inject" {
         return read_injected(rest);
     }
-    Ok(Draft::Whole(read_line(word, rest)?))
+    Ok(Draft::Whole(read_other(word, rest)?))
 }
 
 /// The draft of this first word and the words in `rest`, in a script of this version.

@@ -1,8 +1,8 @@
 ghost use Rattle.std.specs.Prelude.{◌≡◌, ◌≤◌, ℕ, List, Option, [], ◌∷◌, ◌++◌, length, IfOk, IfErr, IfSome, IfNone, OnOk, Err};
 ghost use Rattle.hn_script.specs.Entries.{IsEntry, AreLines, numbered, FaultFrom};
 ghost use Rattle.hn_script.specs.Fault.{LineFault};
-ghost use Rattle.hn_script.specs.Laws.{HasFaultOrScript};
-ghost use Rattle.hn_script.specs.Line.{of_version};
+ghost use Rattle.hn_script.specs.Laws.{HasFaultOrScript, IsLimited};
+ghost use Rattle.hn_script.specs.Line.{of_version, IsOfVersion};
 ghost use Rattle.hn_script.specs.Script.{IsScript, IsFirstFault, FirstLineFault, script_text, first_line};
 ghost use Rattle.hn_script.specs.Texts.{lines_of};
 ghost use Rattle.hn_script.specs.declared.fault.ScriptFault.{ScriptFault as AScriptFault};
@@ -10,7 +10,7 @@ ghost use Rattle.hn_script.specs.declared.line.Line.{Line as ALine};
 ghost use Rattle.hn_script.specs.declared.script.Script.{Script as AScript};
 
 use crate::code::{LARGE, OPENING};
-use crate::fault::{ParseFault, ScriptFault};
+use crate::fault::{ParseFault, ReadFault, ScriptFault};
 use crate::line::Line;
 use crate::reader::{check_text, line_fault, read_text};
 use crate::texts::next_line;
@@ -44,6 +44,27 @@ pub fn parse(alloc: Global, bytes: &[u8]) -> Result<Script, ParseFault>
     };
     let lines = read_lines(alloc, version, rest)?;
     Ok(Script { version, lines })
+}
+
+/// The line of this version that a text is, without its LF; `None` if and only if the text is skipped.
+///
+/// # Errors
+///
+/// `Code` with the fault of the text if and only if it is no line of the version, and `NoMemory` if memory runs out.
+pub fn read_line(alloc: Global, version: Version, text: &[u8]) -> Result<Option<Line>, ReadFault>
+    ensures entry { IfOk result (λ entry. IsEntry (of_version version) entry text.now) }
+    ensures limited { IfOk result (λ entry. IfSome entry IsLimited) }
+    ensures known { IfOk result (λ entry. IfSome entry (IsOfVersion version)) }
+    ensures fault { (code : ℕ) → result ≡ Err (ReadFault.Code code) → LineFault (of_version version) text.now code }
+{
+    match read_text(version, text) {
+        Ok(None) => Ok(None),
+        Ok(Some(draft)) => {
+            let line = draft.into_line(alloc)?;
+            Ok(Some(line))
+        }
+        Err(code) => Err(ReadFault::Code(code)),
+    }
 }
 
 /// The first fault of these bytes; `None` if and only if they are a script. Never allocates.

@@ -5,12 +5,14 @@ pub mod AroundPair
 mod AtPair
 pub mod Awaited
 mod Bests
+pub mod ChangedNodes
 pub mod Exists
 pub mod FreePrefixes
 pub mod Fronts
 pub mod GrownByEach
 mod HeldSame
 pub mod Indexes
+pub mod Joined
 pub mod Keeping
 pub mod KeptFacts
 pub mod LaterMoments

@@ -67,7 +67,7 @@ fn order_if_many(advertised: &mut Vec<Advertised>)
 }
 
 /// The same, for a list of which all but few stand in order: in time that is linear in their number.
-fn merge_by_bits(advertised: &mut Vec<Advertised>) -> Result<(), NoMemory>
+pub(crate) fn merge_by_bits(advertised: &mut Vec<Advertised>) -> Result<(), NoMemory>
     ensures ascending { OnOk result (IsNonDecreasingBy (λ a. a.prefix.bits) advertised.new.items) }
     ensures same { OnOk result (HaveSame advertised.new.items advertised.old.items) }
 {

@@ -7,6 +7,7 @@ ghost use Rattle.hn_assign.specs.Alike.{AdvertisesAs, AdvertiseAlike};
 ghost use Rattle.hn_assign.specs.Gathered.{AreAdvertised};
 
 use crate::assigned::Assigned;
+use crate::changed::changed_nodes;
 use crate::held::Held;
 use crate::index::Index;
 use crate::renewing::renewed;
@@ -196,7 +197,8 @@ impl KeptIndex {
         if is_same(self.own, view.own) {
             let known = self.index.get();
             if known.is_ordered() {
-                return renewed(alloc, known.as_slice(), &self.nodes, view, held);
+                let changed = changed_nodes(alloc, view.own, &self.nodes, view.nodes)?;
+                return renewed(alloc, known.as_slice(), &changed, view, held);
             }
         }
         Index::gather(alloc, view, held)

@@ -5,6 +5,7 @@ mod ascending;
 mod assigned;
 mod assignments;
 mod backoff;
+mod changed;
 mod due;
 mod gathering;
 mod held;

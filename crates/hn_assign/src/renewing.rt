@@ -1,177 +1,151 @@
 //! The index of the advertised prefixes, renewed: what unchanged nodes advertise is taken as it stands in the index of before.
 
-ghost use Rattle.std.specs.Prelude.{◌≡◌, ◌↔◌, ◌⊎◌, [], IsTrue, IfOk, OnOk, Contains};
+ghost use Rattle.std.specs.Prelude.{◌≡◌, ◌↔◌, ◌⊎◌, ◌≤◌, ◌∷◌, ◌++◌, [], drop, length, IsTrue, IfOk, OnOk, Contains};
 ghost use Rattle.std.specs.List.Sorted.{IsStrictlySortedBy};
-ghost use Rattle.std.specs.Ordering.{nat_cmp};
 ghost use Rattle.hn_base.specs.NodeIds.{node_cmp};
-ghost use Rattle.hn_base.specs.declared.ids.NodeId.{NodeId};
 ghost use Rattle.hn_data.specs.declared.view.Entry.{Entry};
-ghost use Rattle.hn_data.specs.View.{plain_view, ids_of, IsNetwork};
+ghost use Rattle.hn_data.specs.View.{plain_view};
 ghost use Rattle.hn_assign.specs.declared.assigned.Advertised.{Advertised};
 ghost use Rattle.hn_assign.specs.Gathered.{AreAdvertised};
-ghost use Rattle.hn_assign.specs.Renewed.{HasOfOthers, AdvertisesOn, AreUnchanged, IsOfChanged, IsOfUnchanged};
+ghost use Rattle.hn_assign.specs.Renewed.{HasOfUnchanged, IsOfChanged, IsOfUnchanged, IsAnew};
 
 use crate::assigned::Advertised;
 use crate::gathering::{add_other, add_own};
 use crate::held::Held;
-use crate::index::Index;
-use crate::kept_index::advertise_same;
-use hn_base::{NoMemory, NodeId, NodeIds, sort_to_set};
-use hn_data::{Entry, View, place_of};
+use crate::index::{Index, merge_by_bits};
+use hn_base::{NoMemory, NodeId, NodeIds};
+use hn_data::{Entry, View};
 use std::alloc::Global;
 
-/// Whether a node is another one than the router's own, and advertises what it did before.
-fn is_unchanged(own: NodeId, before: &[Entry], node: &Entry) -> bool
-    requires { IsStrictlySortedBy nat_cmp (ids_of before.now) }
-    ensures { IsTrue result → AdvertisesOn own.0 before.now node.now }
-{
-    let Some(place) = place_of(before, node.id) else {
-        return false;
-    };
-    if node.id == own {
-        return false;
-    }
-    advertise_same(&before[place], node)
-}
-
-/// The identifiers of the nodes that advertise what they did before.
-fn unchanged_nodes(
-    alloc: Global,
-    own: NodeId,
-    before: &[Entry],
-    after: &[Entry],
-) -> Result<NodeIds, NoMemory>
-    requires { IsStrictlySortedBy nat_cmp (ids_of before.now) }
-    ensures those { IfOk result (AreUnchanged own.0 before.now after.now) }
-    ensures ascending { IfOk result (IsStrictlySortedBy node_cmp) }
-{
-    let mut ids = Vec::new(alloc);
-    add_unchanged(&mut ids, own, before, after)?;
-    sort_to_set(&mut ids);
-    Ok(NodeIds::from(ids))
-}
-
-/// Adds them.
-fn add_unchanged(
-    ids: &mut Vec<NodeId>,
-    own: NodeId,
-    before: &[Entry],
-    after: &[Entry],
-) -> Result<(), NoMemory>
-    requires ascending { IsStrictlySortedBy nat_cmp (ids_of before.now) }
-    requires none { ids.old.items ≡ [] }
-    ensures { OnOk result (AreUnchanged own.0 before.now after.now ids.new.items) }
-{
-    for node in after {
-        add_if_unchanged(ids, own, before, node)?;
-    }
-    Ok(())
-}
-
-/// Adds a node, where it advertises what it did before.
-fn add_if_unchanged(
-    ids: &mut Vec<NodeId>,
-    own: NodeId,
-    before: &[Entry],
-    node: &Entry,
-) -> Result<(), NoMemory>
-    requires { IsStrictlySortedBy nat_cmp (ids_of before.now) }
-    ensures { OnOk result ((id : NodeId) → Contains ids.new.items id
-        → Contains ids.old.items id ⊎ ((node.now.id ≡ id) × AdvertisesOn own.0 before.now node.now)) }
-{
-    if !is_unchanged(own, before, node) {
-        return Ok(());
-    }
-    ids.push(node.id)?;
-    Ok(())
-}
-
-/// What these nodes advertise, in the order in which it is known.
-fn known_of(
-    alloc: Global,
-    known: &[Advertised],
-    unchanged: &NodeIds,
-) -> Result<Vec<Advertised>, NoMemory>
-    requires { IsStrictlySortedBy node_cmp unchanged.now }
-    ensures { IfOk result (λ kept. (a : Advertised) → Contains kept.items a
-        ↔ ((k : Advertised) × Contains known.now k × IsOfUnchanged unchanged.now k a)) }
-{
-    let mut kept = Vec::with_capacity(alloc, known.len())?;
-    for a in known {
-        add_if_unchanged_says(&mut kept, a, unchanged)?;
-    }
-    Ok(kept)
-}
-
-/// Adds what is advertised, where one of these nodes does.
-fn add_if_unchanged_says(
-    kept: &mut Vec<Advertised>,
-    a: &Advertised,
-    unchanged: &NodeIds,
-) -> Result<(), NoMemory>
-    requires { IsStrictlySortedBy node_cmp unchanged.now }
-    ensures { OnOk result ((x : Advertised) → Contains kept.new.items x
-        ↔ (Contains kept.old.items x ⊎ IsOfUnchanged unchanged.now a.now x)) }
-{
-    if !unchanged.contains(a.key.node) {
-        return Ok(());
-    }
-    kept.push(*a)?;
-    Ok(())
-}
-
-/// Adds what a node advertises, where it is none of these.
+/// Adds what a node advertises, where it is one of these.
 fn add_if_changed(
     items: &mut Vec<Advertised>,
     own: NodeId,
     node: &Entry,
-    unchanged: &NodeIds,
+    changed: &NodeIds,
 ) -> Result<(), NoMemory>
-    requires { IsStrictlySortedBy node_cmp unchanged.now }
+    requires { IsStrictlySortedBy node_cmp changed.now }
     ensures { OnOk result ((a : Advertised) → Contains items.new.items a
-        ↔ (Contains items.old.items a ⊎ IsOfChanged own.0 unchanged.now node.now a)) }
+        ↔ (Contains items.old.items a ⊎ IsOfChanged own.0 changed.now node.now a)) }
 {
-    if unchanged.contains(node.id) {
+    if !changed.contains(node.id) {
         return Ok(());
     }
     add_other(items, own, node)
 }
 
-/// Adds what other nodes advertise, but these.
+/// Adds what those of these nodes advertise that are other ones.
 fn add_changed(
     items: &mut Vec<Advertised>,
     own: NodeId,
     nodes: &[Entry],
-    unchanged: &NodeIds,
+    changed: &NodeIds,
 ) -> Result<(), NoMemory>
-    requires { IsStrictlySortedBy node_cmp unchanged.now }
+    requires { IsStrictlySortedBy node_cmp changed.now }
     ensures { OnOk result ((a : Advertised) → Contains items.new.items a
-        ↔ (Contains items.old.items a ⊎ ((entry : Entry) × Contains nodes.now entry × IsOfChanged own.0 unchanged.now entry a))) }
+        ↔ (Contains items.old.items a ⊎ ((entry : Entry) × Contains nodes.now entry × IsOfChanged own.0 changed.now entry a))) }
 {
     for node in nodes {
-        add_if_changed(items, own, node, unchanged)?;
+        add_if_changed(items, own, node, changed)?;
     }
     Ok(())
 }
 
-/// An index of what a router sees and holds, from what it knew when it saw the nodes of before.
+/// What these nodes and the router itself advertise, in ascending order by the bits.
+fn fresh(
+    alloc: Global,
+    view: &View<'_>,
+    changed: &NodeIds,
+    held: &Held,
+) -> Result<Vec<Advertised>, NoMemory>
+    requires { IsStrictlySortedBy node_cmp changed.now }
+    ensures { IfOk result (λ fresh. (a : Advertised) → Contains fresh.items a
+        ↔ IsAnew (plain_view view.entry.now) changed.now held.now.assigned a) }
+{
+    let mut items = Vec::new(alloc);
+    add_changed(&mut items, view.own, view.nodes, changed)?;
+    add_own(&mut items, view.own, held.assigned.as_slice())?;
+    merge_by_bits(&mut items)?;
+    Ok(items)
+}
+
+/// Adds those from a place on that come before these bits: the place of the next one.
+fn add_below(
+    all: &mut Vec<Advertised>,
+    fresh: &[Advertised],
+    next: usize,
+    bits: u128,
+) -> Result<usize, NoMemory>
+    requires { next ≤ length fresh.now }
+    ensures within { IfOk result (λ place. place ≤ length fresh.now) }
+    ensures moved { IfOk result (λ place. all.new.items ++ drop place fresh.now ≡ all.old.items ++ drop next fresh.now) }
+{
+    for place in next..fresh.len() {
+        if bits <= fresh[place].prefix.bits() {
+            return Ok(place);
+        }
+        all.push(fresh[place])?;
+    }
+    Ok(fresh.len())
+}
+
+/// Adds what is known of an unchanged node, and before it those from a place on that come first: the place of the next one.
+fn add_known(
+    all: &mut Vec<Advertised>,
+    fresh: &[Advertised],
+    next: usize,
+    changed: &NodeIds,
+    a: &Advertised,
+) -> Result<usize, NoMemory>
+    requires ascending { IsStrictlySortedBy node_cmp changed.now }
+    requires within { next ≤ length fresh.now }
+    ensures within { IfOk result (λ place. place ≤ length fresh.now) }
+    ensures those { IfOk result (λ place. (x : Advertised) → Contains (all.new.items ++ drop place fresh.now) x
+        ↔ (Contains (all.old.items ++ drop next fresh.now) x ⊎ IsOfUnchanged changed.now a.now x)) }
+{
+    if changed.contains(a.key.node) {
+        return Ok(next);
+    }
+    let place = add_below(all, fresh, next, a.prefix.bits())?;
+    all.push(*a)?;
+    Ok(place)
+}
+
+/// What is known of unchanged nodes, and all that is fresh. Where both are in ascending order by the bits, so is it.
+fn joined(
+    alloc: Global,
+    known: &[Advertised],
+    changed: &NodeIds,
+    fresh: &[Advertised],
+) -> Result<Vec<Advertised>, NoMemory>
+    requires { IsStrictlySortedBy node_cmp changed.now }
+    ensures { IfOk result (λ all. (a : Advertised) → Contains all.items a
+        ↔ (Contains fresh.now a ⊎ ((k : Advertised) × Contains known.now k × IsOfUnchanged changed.now k a))) }
+{
+    let mut all = Vec::with_capacity(alloc, known.len() + fresh.len())?;
+    let mut next = 0;
+    for a in known {
+        next = add_known(&mut all, fresh, next, changed, a)?;
+    }
+    all.extend_from_slice(&fresh[next..])?;
+    Ok(all)
+}
+
+/// An index of what a router sees and holds, from one that has what unchanged nodes advertise.
 ///
-/// What unchanged nodes advertise stands in order already: only what the others do is brought into order, and both are merged.
+/// What they advertise stands in order already: only what the others do is brought into order, and put between.
 pub(crate) fn renewed(
     alloc: Global,
     known: &[Advertised],
-    before: &[Entry],
+    changed: &NodeIds,
     view: &View<'_>,
     held: &Held,
 ) -> Result<Index, NoMemory>
-    requires network { IsNetwork view.now.own.0 view.now.nodes.now }
-    requires ascending { IsStrictlySortedBy nat_cmp (ids_of before.now) }
-    requires known { HasOfOthers view.now.own.0 before.now known.now }
+    requires ascending { IsStrictlySortedBy node_cmp changed.now }
+    requires known { HasOfUnchanged view.now.own.0 view.now.nodes.now changed.now known.now }
     ensures { IfOk result (AreAdvertised (plain_view view.entry.now) held.now.assigned) }
 {
-    let unchanged = unchanged_nodes(alloc, view.own, before, view.nodes)?;
-    let mut items = known_of(alloc, known, &unchanged)?;
-    add_changed(&mut items, view.own, view.nodes, &unchanged)?;
-    add_own(&mut items, view.own, held.assigned.as_slice())?;
-    Index::merged(alloc, items)
+    let fresh = fresh(alloc, view, changed, held)?;
+    let all = joined(alloc, known, changed, &fresh)?;
+    Index::merged(alloc, all)
 }

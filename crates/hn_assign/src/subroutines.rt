@@ -8,6 +8,7 @@ ghost use Rattle.hn_assign.specs.Renewed.{HasOfOthers};
 ghost use Rattle.hn_assign.specs.Subroutine.{IsBegun, AreSteps, IsSubroutine};
 
 use crate::assigned::Wish;
+use crate::changed::own_node;
 use crate::held::{Held, Ran};
 use crate::index::Index;
 use crate::kept_index::KeptIndex;
@@ -175,7 +176,8 @@ fn gathered_again(
     if !known.is_ordered() {
         return gathered(alloc, view, held);
     }
-    let again = renewed(alloc, known.as_slice(), view.nodes, view, held)?;
+    let changed = own_node(alloc, view.own)?;
+    let again = renewed(alloc, known.as_slice(), &changed, view, held)?;
     Shared::new(alloc, again)
 }
 

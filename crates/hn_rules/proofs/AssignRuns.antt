@@ -1,7 +1,9 @@
 -- An assignment of prefixes: the words that it takes, and what it leaves.
-use Rattle.hn_base.proofs.Names.{◌≡◌, ◌∙◌, ℕ, List, Option, Decides, sym, ap, subst, ◌==◌, ◌&&◌, Decides-and, Decides-like, Decides-eqb, Drew, Took}
-use Rattle.hn_rules.proofs.Names.{Backoff, Held, Running, State, IsWishAt, IsRunAssigned, IsAssigning, seen_by, IsSubroutine, Wish, PlainView, AreUsable, Nodes, Ran, with_words, IsRefreshed}
+use Rattle.hn_base.proofs.Names.{◌≡◌, ◌∙◌, ◌++◌, ℕ, List, Option, Decides, sym, ap, subst, ◌==◌, ◌&&◌, Decides-and, Decides-like, Decides-eqb, Drew, Took}
+use Rattle.hn_rules.proofs.Names.{Backoff, Contains, EpId, Held, Port, endpoints_of, Running, State, IsWishAt, IsRunAssigned, IsAssigning, seen_by, IsSubroutine}
+use Rattle.hn_rules.proofs.Names.{Wish, PlainView, AreUsable, Nodes, Ran, with_words, IsRefreshed}
 use Rattle.hn_assign.specs.declared.held.Ran.{Ran as Left}
+use Rattle.hn_own.specs.Posts.{private_posts}
 use Rattle.hn_base.proofs.Prefixes.{is_one_prefix, prefix_decided}
 
 -- ---- when backoffs are the same
@@ -32,6 +34,25 @@ run_seen s table net left same is =
         );
       };
       is_subroutine = subst (λ (view : PlainView). IsSubroutine view is.wishes s.held left) same is.is_subroutine;
+    }
+
+-- and whatever its endpoints hold beside their numbers
+pub run_ports : (s : State) (ports : List Port) (due : ℕ) (left : Left) → endpoints_of ports ≡ endpoints_of s.ports → IsRunAssigned s left
+    → IsRunAssigned (record s { ports = ports; due = due }) left
+run_ports s ports due left same is =
+    let has_post = λ (wish : Wish) (ends : List EpId). Contains (private_posts s.private ++ ends) wish.endpoint in
+    record {
+      usable = is.usable;
+      are_usable = is.are_usable;
+      wishes = is.wishes;
+      are_asked = record {
+        ascending = is.are_asked.ascending;
+        exact = λ wish. (
+          λ there. let w = (is.are_asked.exact wish).0 there in record { place = w.place; asked = w.asked; post = subst (has_post wish) (sym same) w.post },
+          λ w. (is.are_asked.exact wish).1 (record { place = w.place; asked = w.asked; post = subst (has_post wish) same w.post }),
+        );
+      };
+      is_subroutine = is.is_subroutine;
     }
 
 -- what the subroutine left is held, and then the words are taken

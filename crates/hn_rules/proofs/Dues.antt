@@ -1,10 +1,11 @@
 -- When something is next due for a router.
-use Rattle.hn_base.proofs.Names.{◌≡◌, ◌∙◌, ◌⊎◌, ℕ, ◌^◌, List, Option, Some, None, Result, Ok, Err, sym, ap, subst, filter_map, IsSooner, IsOfElement}
+use Rattle.hn_base.proofs.Names.{◌≡◌, ◌∙◌, ◌⊎◌, ◌<◌, ◌≤◌, ℕ, ◌^◌, inl, inr, List, Option, Some, None, Result, Ok, Err, sym, ap, subst, filter_map, IsSooner, IsOfElement}
 use Rattle.hn_rules.proofs.Names.{sooner_both, EpId, NoMemory, IsExpiryMoment, PlainItem, ItemsAreUnique, interval_of, keep_alive_of, PlainView, Entry, Neighbour, IsForgetting, held, Stored}
 use Rattle.hn_rules.proofs.Names.{IsAgeLimit, IsLifetimeEnd, IsHeldDue, IsOwnEnd, State, IsPeerEnd, IsDueAtPort, IsDueAt, view_of, seen_by, HasInterval}
 use Rattle.std.proofs.Common.{IfOk}
 use Rattle.hn_base.proofs.NextDue.{sooner_same, sooner_is_one}
-use Rattle.hn_rules.specs.Due.{IsOwnAgeDue, IsKeptDue, IsSeenDue, IsNextDue}
+use Rattle.hn_dncp.specs.Due.{IsPortDue}
+use Rattle.hn_rules.specs.Due.{IsOwnAgeDue, IsKeptDue, IsSeenDue, IsNextDue, IsUndueUntil}
 use Rattle.hn_rules.specs.Laws.{NextDueIsOne}
 
 -- a peer has one keep-alive interval
@@ -46,3 +47,14 @@ due_of_parts s ports kept (Err e) of_ports of_kept of_seen = tt
 due_of_parts s ports kept (Ok first) of_ports of_kept of_seen =
     sooner_both (IsOfElement (IsDueAtPort s.table.entries) s.ports) (λ m. IsKeptDue s m ⊎ IsSeenDue s m) s.moment (2 ^ 49) ports first of_ports
     (sooner_both (IsKeptDue s) (IsSeenDue s) s.moment ports kept first of_kept of_seen)
+
+-- where nothing is due before the moment at which an endpoint's timers are
+pub due_from : (s : State) (until first : ℕ) → first ≡ until → IsUndueUntil until s → IsSooner (IsOfElement IsPortDue s.ports) s.moment (2 ^ 49) first → IsNextDue s until
+due_from s until first same undue h = record {
+  at_most = subst (λ (n : ℕ). n ≤ 2 ^ 49) same h.at_most;
+  least = undue;
+  is = elim h.is [
+    | inl none ↦ inl (sym same ∙ none)
+    | inr ((port, there, due), after) ↦ inr (subst (λ (n : ℕ). IsDueAt s n × (s.moment < n)) same (inl (port, there, inr due), after))
+  ];
+}

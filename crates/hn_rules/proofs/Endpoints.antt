@@ -6,7 +6,7 @@ use Rattle.hn_rules.proofs.Leads.{Walk}
 use Rattle.hn_rules.proofs.Walk.{refresh_walk, arrival_walk, expiry_walk, assigning_walk, ports_walk, restarting_walk}
 
 -- one endpoint in place of another of its number
-put_endpoints : (port : Port) (ports : List Port) → endpoints_of (put_port port ports) ≡ endpoints_of ports
+pub put_endpoints : (port : Port) (ports : List Port) → endpoints_of (put_port port ports) ≡ endpoints_of ports
 put_endpoints port [] = refl
 put_endpoints port (p ∷ ports) =
     let one = cond_both (is_port port.id p) port p (λ (q : Port). q.id ≡ p.id) (λ is. sym (same_id p.id port.id (eqb-true _ _ is))) (λ _. refl) in

@@ -33,6 +33,7 @@ mod ExactTicks
 mod OwnIntervals
 mod PartsOfRouters
 mod Passings
+mod PassedIsUndue
 mod PeersUpdates
 mod TickSends
 mod PortFacts

@@ -68,7 +68,7 @@ module _ (known : HeldIsOfAnEntry) (s : State) (now later : ℕ) (past : IsPast 
       )
 
   module _ (ends : EndsOfLater) where
-    due_later : (m : ℕ) → later < m → IsDueAt (at_moment now s) m ↔ IsDueAt (at_moment later s) m
+    pub due_later : (m : ℕ) → later < m → IsDueAt (at_moment now s) m ↔ IsDueAt (at_moment later s) m
     due_later m after = (up, down)
       where
         same : IsLifetimeEnd (seen_by (at_moment now s)) m ↔ IsLifetimeEnd (seen_by (at_moment later s)) m

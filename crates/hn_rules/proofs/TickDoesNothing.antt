@@ -6,9 +6,10 @@ use Rattle.hn_rules.proofs.Names.{has_ended_one, ArePorts, OwnItems, OwnPrefix, 
 use Rattle.hn_rules.proofs.Names.{IsRunAssigned, IsAssigning, ending, nothing, IsLeft, UndueStays, NextDueStays, held_entry, own_entry, held_entries, nodes_of, IsReach, own_items, IsPublished}
 use Rattle.hn_rules.proofs.Names.{IsRefresh, IsRouter, IsSole, begun_at, at_moment, AreHeard, IsExpiry, forgetting, IsPortsTick, IsTick}
 use Rattle.hn_assign.specs.declared.held.Ran.{Ran as Assigned}
-use Rattle.hn_store.specs.Laws.{NoneIsForgotten}
+use Rattle.hn_deleg.specs.Laws.{EndsOfLater}
+use Rattle.hn_store.specs.Laws.{HeldIsOfAnEntry, NoneIsForgotten}
 use Rattle.hn_rules.specs.Idle.{IsIdleTick}
-use Rattle.hn_rules.specs.Laws.{UndueIsIdle, IdleIsUndue, TickOfNothingIsUndue, IdleUntilDue}
+use Rattle.hn_rules.specs.Laws.{UndueIsIdle, IdleIsUndue, TickOfNothingIsUndue, IdleUntilDue, IdleWhileUndue}
 use Rattle.hn_rules.specs.Undue.{IsRouterUndue}
 use Rattle.hn_rules.proofs.AssignRuns.{run_seen}
 use Rattle.hn_rules.proofs.Forgetting.{IsMarked, stays}
@@ -19,6 +20,7 @@ use Rattle.hn_rules.proofs.ExactTicks.{exact_expiry}
 use Rattle.hn_rules.proofs.PortsInTurn.{with_ports}
 use Rattle.hn_rules.proofs.NoPeerExpired.{none_expired, expiry_ports}
 use Rattle.hn_rules.proofs.PortsOfNothing.{all_idle, ticks_ports}
+use Rattle.hn_rules.proofs.SeenWhileTimePasses.{due_later}
 use Rattle.hn_rules.proofs.Silences.{CameToNothing, none_after, seen_again, refresh_of_nothing, nothing_came_walk}
 use Rattle.hn_rules.proofs.Walk.{assigning_walk, ports_walk}
 
@@ -322,3 +324,11 @@ idle_until is_idle is_router_undue stays_still stays_due s later due router begu
     let still = is_router_undue s s.moment router (omega arith) idle in
     let still_later = stays_still s s.moment later router (omega arith) begun still (λ m is after. let first = next.least m is after in omega (arith, first, before)) in
     (is_idle s later router begun still_later, stays_due s s.moment later due router (omega arith) begun before next)
+
+pub idle_while : UndueIsIdle → IdleIsUndue → UndueStays → HeldIsOfAnEntry → EndsOfLater → IdleWhileUndue
+idle_while is_idle is_router_undue stays_undue known ends s later until router begun before idle undue =
+    let now_undue = is_router_undue s s.moment router (omega arith) idle in
+    let later_undue = stays_undue s s.moment later router (omega arith) begun now_undue (λ m is after. let first = undue m is after in omega (arith, first, before)) in (
+      is_idle s later router begun later_undue,
+      λ m is after. undue m ((due_later known s s.moment later router.well.past (omega arith) begun ends m after).1 is) (omega (arith, begun, after)),
+    )

@@ -1,5 +1,5 @@
 -- When something is next due for a router.
-use Rattle.std.specs.Prelude.{◌≡◌, ℕ, ◌+◌, ◌-◌, ◌^◌, ◌⊎◌, List}
+use Rattle.std.specs.Prelude.{◌≡◌, ℕ, ◌+◌, ◌-◌, ◌^◌, ◌<◌, ◌≤◌, ◌⊎◌, List}
 use Rattle.hn_base.specs.Sooner.{IsSooner, IsOfElement}
 use Rattle.hn_timers.specs.Due.{IsExpiryMoment}
 use Rattle.hn_dncp.specs.Due.{IsPortDue}
@@ -48,3 +48,7 @@ IsDueAt s m = IsOfElement (IsDueAtPort s.table.entries) s.ports m ⊎ (IsKeptDue
 -- the first of these moments that is after the router's; 2^49, where none comes before
 abbrev pub IsNextDue : State → ℕ → Type 0
 IsNextDue s due = IsSooner (IsDueAt s) s.moment (2 ^ 49) due
+
+-- nothing is due for a router between its moment and that one
+abbrev pub IsUndueUntil : ℕ → State → Type 0
+IsUndueUntil until s = (m : ℕ) → IsDueAt s m → s.moment < m → until ≤ m

@@ -29,6 +29,7 @@ use Rattle.hn_own.specs.Ranges.{IsRangedAddress}
 use Rattle.hn_own.specs.Posts.{posts_of, private_post}
 use Rattle.hn_store.specs.Nodes.{held}
 use Rattle.hn_store.specs.declared.stored.Stored.{Stored}
+use Rattle.hn_rules.specs.declared.arrival.passing.Passing.{Passing}
 use Rattle.hn_rules.specs.declared.done.Done.{Done}
 use Rattle.hn_rules.specs.declared.done.Publication.{Publication}
 use Rattle.hn_rules.specs.declared.running.Origin.{Origin}
@@ -39,7 +40,7 @@ use Rattle.hn_rules.specs.Assigning.{AreAsked, IsAssigning}
 use Rattle.hn_rules.specs.Changes.{IsOfChanges, EachKeeps}
 use Rattle.hn_rules.specs.Delegating.{delegating}
 use Rattle.hn_rules.specs.Done.{nothing}
-use Rattle.hn_rules.specs.Due.{IsDueAt, IsNextDue}
+use Rattle.hn_rules.specs.Due.{IsDueAt, IsNextDue, IsUndueUntil}
 use Rattle.hn_rules.specs.Events.{IsAttaching, setting_addresses}
 use Rattle.hn_rules.specs.Genuine.{TlvsSayPublished, IsGenuineOrCollides}
 use Rattle.hn_rules.specs.Given.{IsRangedDelegation}
@@ -47,6 +48,7 @@ use Rattle.hn_rules.specs.Grows.{GrowsFrom}
 use Rattle.hn_rules.specs.Idle.{IsIdleTick, IsLeft}
 use Rattle.hn_rules.specs.Lengths.{AreShort}
 use Rattle.hn_rules.specs.Nodes.{held_entry, own_entry, entry_of, leaves_of, view_of, IsReach}
+use Rattle.hn_rules.specs.Passing.{after_passing}
 use Rattle.hn_rules.specs.Refresh.{IsRefresh}
 use Rattle.hn_rules.specs.Router.{IsWell, IsHashed, IsRouter}
 use Rattle.hn_rules.specs.Rules.{Rule, IsTotal, begun_at}
@@ -160,6 +162,19 @@ abbrev pub IdleUntilDue : Type 0
 IdleUntilDue =
     (s : State) (later due : ℕ) → IsRouter s → s.moment ≤ later → later < due → IsIdleTick s.moment s → IsNextDue s due
     → IsIdleTick later s × IsNextDue (at_moment later s) due
+
+-- Where a tick does nothing, and nothing is due before a moment, both stay so while time passes before that moment.
+abbrev pub IdleWhileUndue : Type 0
+IdleWhileUndue =
+    (s : State) (later until : ℕ) → IsRouter s → s.moment ≤ later → later < until → IsIdleTick s.moment s → IsUndueUntil until s
+    → IsIdleTick later s × IsUndueUntil until (at_moment later s)
+
+-- Both stay so too where an arrival is let pass before that moment: a contact that is renewed expires later than it did.
+abbrev pub PassingKeepsUndue : Type 0
+PassingKeepsUndue =
+    (s : State) (p : Passing) (now until : ℕ) → IsRouter s → IsRouter (after_passing p now s) → s.moment ≤ now → now < until
+    → IsIdleTick s.moment s → IsUndueUntil until s
+    → IsIdleTick now (after_passing p now s) × IsUndueUntil until (after_passing p now s)
 
 -- ---- what a rule keeps
 

@@ -2,7 +2,8 @@
 
 ghost use Rattle.std.specs.Prelude.{IfOk};
 ghost use Rattle.hn_base.specs.Sooner.{IsSooner, IsOfElement};
-ghost use Rattle.hn_rules.specs.Due.{IsPeerEnd, IsDueAtPort, IsKeptDue, IsSeenDue, IsNextDue};
+ghost use Rattle.hn_dncp.specs.Due.{IsPortDue};
+ghost use Rattle.hn_rules.specs.Due.{IsPeerEnd, IsDueAtPort, IsKeptDue, IsSeenDue, IsNextDue, IsUndueUntil};
 
 use crate::refresh::OLDEST_OWN_DATA;
 use crate::state::State;
@@ -91,5 +92,32 @@ impl State {
         let ports = self.next_of_ports(NEVER);
         let kept = self.next_kept(ports);
         self.next_seen(alloc, kept)
+    }
+    /// The first moment after the router's at which an endpoint's timers are due, and not its peers; else `best`. Never
+    /// allocates.
+    fn next_of_timers(&self, best: Moment) -> Moment
+        ensures { IsSooner (IsOfElement IsPortDue self.now.ports) self.now.moment best result }
+    {
+        let now = self.moment.get();
+        let mut first = best;
+        for port in self.ports.get().as_slice() {
+            first = port.next_due(now, first);
+        }
+        first
+    }
+
+    /// The same as `next_due`, in less time where nothing is due before a moment, and then an endpoint's timers are.
+    ///
+    /// # Errors
+    ///
+    /// Out of memory.
+    pub fn next_due_from(&self, alloc: Global, until: Moment) -> Result<Moment, NoMemory>
+        requires { IsUndueUntil until self.now }
+        ensures { IfOk result (IsNextDue self.now) }
+    {
+        if self.next_of_timers(NEVER) == until {
+            return Ok(until);
+        }
+        self.next_due(alloc)
     }
 }

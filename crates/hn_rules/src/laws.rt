@@ -20,7 +20,7 @@ ghost use Rattle.hn_rules.specs.Laws.{RefreshMakesRouter, AssigningKeeps, Delega
 ghost use Rattle.hn_rules.specs.Laws.{DelegatingMakesChanges, AddressingMakesChanges, ChangesKeepWell, ChangesKeepLimit, ChangesOnlyAdd};
 ghost use Rattle.hn_rules.specs.Laws.{UndueIsIdle, IdleIsUndue, IdleUntilDue, RefreshRests, RouterIsHashed, ChangesKeepHashed};
 ghost use Rattle.hn_rules.specs.Laws.{ChangesKeepShort, ChangesKeepBytes, ChangesKeepGenuine, TickOfNothingIsUndue, HasAResult};
-ghost use Rattle.hn_rules.specs.Laws.{ArrivalHasAResult, AssigningHasAResult, WishesExist};
+ghost use Rattle.hn_rules.specs.Laws.{ArrivalHasAResult, AssigningHasAResult, WishesExist, IdleWhileUndue, PassingKeepsUndue};
 ghost use Rattle.hn_rules.specs.Refresh.{IsRefresh};
 ghost use Rattle.hn_rules.specs.KeptAtRest.{KeepsId, CalmTick, UsedWhereAssigned, ViewOfLater};
 ghost use Rattle.hn_rules.specs.Router.{IsRouter, IsWell};
@@ -236,6 +236,27 @@ pub fn idle_until_due()
     idle_is_undue();
     undue_stays();
     next_due_stays();
+}
+
+/// Where a tick does nothing, and nothing is due before a moment, both stay so while time passes before that moment.
+pub fn idle_while_undue()
+    ensures { IdleWhileUndue }
+{
+    undue_is_idle();
+    idle_is_undue();
+    undue_stays();
+    held_is_of_an_entry();
+    ends_of_later();
+}
+
+/// Both stay so too where an arrival is let pass before that moment: a contact that is renewed expires later than it did.
+pub fn passing_keeps_undue()
+    ensures { PassingKeepsUndue }
+{
+    idle_while_undue();
+    idle_is_undue();
+    undue_is_idle();
+    expiry_is_a_moment();
 }
 
 /// Where nothing that a router keeps has come to its moment, and the assignment subroutine would change nothing, a tick

@@ -1,5 +1,6 @@
 mod Names
 mod Elections
+mod FirstState
 mod Moments
 mod NewRouter
 mod OneEvents

@@ -4,6 +4,7 @@ ghost use Rattle.hn_assign.specs.Gathered.{AreAdvertised};
 ghost use Rattle.hn_base.specs.Words.{Took};
 ghost use Rattle.hn_own.specs.Ports.{is_attached, endpoints_of};
 ghost use Rattle.hn_rules.specs.Nodes.{leaves_of, view_of};
+ghost use Rattle.hn_own.specs.Own.{AreFew};
 ghost use Rattle.hn_own.specs.OwnPrefixes.{may_delegate};
 ghost use Rattle.hn_own.specs.Addresses.{may_address};
 ghost use Rattle.hn_own.specs.Posts.{posts_of};
@@ -11,7 +12,7 @@ ghost use Rattle.hn_rules.specs.Assigning.{AreAsked};
 ghost use Rattle.hn_rules.specs.Seen.{seen_by, IsElectedAt};
 ghost use Rattle.hn_data.specs.View.{plain_view};
 ghost use Rattle.hn_deleg.specs.Used.{AreUsable};
-ghost use Rattle.hn_own.specs.HeldPairs.{AreHeldPairs};
+ghost use Rattle.hn_own.specs.HeldPairs.{AreHeldPairs, no_pairs};
 ghost use Rattle.hn_link.specs.CommonLink.{IsCommonLink};
 ghost use Rattle.hn_rules.specs.Done.{nothing};
 ghost use Rattle.hn_rules.specs.Due.{IsNextDue};
@@ -103,6 +104,66 @@ fn only(alloc: Global, id: NodeId) -> Result<NodeIds, NoMemory>
     Ok(NodeIds::from(ids))
 }
 
+// What a router publishes at first, without capabilities, endpoints, prefixes and addresses.
+fn first_items(alloc: Global) -> Result<OwnItems, NoMemory>
+    ensures caps { IfOk result (λ items. plain_caps items.caps ≡ no_caps) }
+    ensures links { IfOk result (λ items. items.links ≡ []) }
+    ensures delegated { IfOk result (λ items. items.delegated ≡ []) }
+    ensures assigned { IfOk result (λ items. items.assigned ≡ []) }
+    ensures addresses { IfOk result (λ items. items.addresses ≡ []) }
+    ensures few { IfOk result AreFew }
+{
+    let caps = Caps {
+        m: 0,
+        p: 0,
+        h: 0,
+        l: 0,
+    };
+    OwnItems::of(
+        alloc,
+        caps,
+        &Ports::new(alloc),
+        &OwnPrefixes::new(alloc),
+        &HeldPairs::new(alloc),
+        &Addresses::new(alloc),
+    )
+}
+
+// No delegated prefixes, and no assignments and backoffs.
+fn no_prefixes(alloc: Global) -> Result<(Shared<OwnPrefixes>, Shared<HeldPairs>), NoMemory>
+    ensures delegated { IfOk result (λ lists. lists.0 ≡ []) }
+    ensures held { IfOk result (λ lists. lists.1 ≡ no_pairs) }
+{
+    let delegated = Shared::new(alloc, OwnPrefixes::new(alloc))?;
+    let held = Shared::new(alloc, HeldPairs::new(alloc))?;
+    Ok((delegated, held))
+}
+
+// No endpoints, and no addresses.
+fn no_endpoints(alloc: Global) -> Result<(Shared<Ports>, Shared<Addresses>), NoMemory>
+    ensures ports { IfOk result (λ lists. lists.0 ≡ []) }
+    ensures addresses { IfOk result (λ lists. lists.1 ≡ []) }
+{
+    let ports = Shared::new(alloc, Ports::new(alloc))?;
+    let addresses = Shared::new(alloc, Addresses::new(alloc))?;
+    Ok((ports, addresses))
+}
+
+// No other nodes, as many at most as the limit says, and the identifier as the only one that is reached.
+fn no_others(
+    alloc: Global,
+    id: NodeId,
+    limit: usize,
+) -> Result<(Shared<Table>, Shared<NodeIds>), NoMemory>
+    requires { (limit ≡ 256) ⊎ (limit ≡ 1024) }
+    ensures table { IfOk result (λ nodes. nodes.0 ≡ record { limit = limit; entries = [] }) }
+    ensures reach { IfOk result (λ nodes. nodes.1 ≡ id ∷ []) }
+{
+    let table = Shared::new(alloc, Table::sized(alloc, limit))?;
+    let reach = Shared::new(alloc, only(alloc, id)?)?;
+    Ok((table, reach))
+}
+
 // A new router's state, with its node data, and as many other nodes at most as the limit says.
 fn new_state(
     alloc: Global,
@@ -110,11 +171,9 @@ fn new_state(
     now: Moment,
     limit: usize,
     own: OwnData,
-    ports: Ports,
 ) -> Result<State, NoMemory>
     requires in_range { now ≤ 2 ^ 48 }
     requires sized { (limit ≡ 256) ⊎ (limit ≡ 1024) }
-    requires no_ports { ports ≡ [] }
     requires no_links { own.items.links ≡ [] }
     requires no_prefixes { own.items.delegated ≡ [] }
     requires nothing_assigned { own.items.assigned ≡ [] }
@@ -128,20 +187,24 @@ fn new_state(
         number: 1,
         hash: own.hash(),
     };
+    let own = Shared::new(alloc, own)?;
+    let (delegated, held) = no_prefixes(alloc)?;
+    let (ports, addresses) = no_endpoints(alloc)?;
+    let (table, reach) = no_others(alloc, id, limit)?;
     Ok(State {
         id,
         number: 1,
         moment: Present::new(now),
         caps,
-        own: Shared::new(alloc, own)?,
-        delegated: Shared::new(alloc, OwnPrefixes::new(alloc))?,
-        held: Shared::new(alloc, HeldPairs::new(alloc))?,
+        own,
+        delegated,
+        held,
         claimed: false,
         private: None,
-        ports: Shared::new(alloc, ports)?,
-        addresses: Shared::new(alloc, Addresses::new(alloc))?,
-        table: Shared::new(alloc, Table::sized(alloc, limit))?,
-        reach: Shared::new(alloc, only(alloc, id)?)?,
+        ports,
+        addresses,
+        table,
+        reach,
         net: network_of(&[part]),
         due: 0,
     })
@@ -199,23 +262,9 @@ impl Router {
         ensures { IfOk result (IsNew id limit now) }
     {
         new_is_router();
-        let ports = Ports::new(alloc);
-        let caps = Caps {
-            m: 0,
-            p: 0,
-            h: 0,
-            l: 0,
-        };
-        let items = OwnItems::of(
-            alloc,
-            caps,
-            &ports,
-            &OwnPrefixes::new(alloc),
-            &HeldPairs::new(alloc),
-            &Addresses::new(alloc),
-        )?;
+        let items = first_items(alloc)?;
         let own = OwnData::new(alloc, items, now)?;
-        let state = new_state(alloc, id, now, limit, own, ports)?;
+        let state = new_state(alloc, id, now, limit, own)?;
         Ok(Router { state })
     }
 

@@ -20,8 +20,9 @@ ghost use Rattle.hn_rules.specs.Lasting.{LastsBefore};
 ghost use Rattle.hn_rules.specs.Router.{IsRouter};
 ghost use Rattle.hn_rules.specs.Idle.{IsIdleTick};
 ghost use Rattle.hn_rules.specs.Router.{IsRouter};
+ghost use Rattle.hn_rules.specs.Rules.{begun_at};
 ghost use Rattle.hn_rules.specs.Undue.{at_moment};
-ghost use Rattle.hn_router.specs.Act.{plain_event, Tick, Happened, HasResults};
+ghost use Rattle.hn_router.specs.Act.{plain_event, Tick, Happened, HasResults, IsEvent, IsDueAfter};
 ghost use Rattle.hn_router.specs.New.{no_caps, IsNew};
 ghost use Rattle.hn_router.specs.Plan.{changed};
 ghost use Rattle.hn_rules.specs.Passing.{after_passing};
@@ -210,6 +211,28 @@ fn new_state(
     })
 }
 
+// An event runs from where it begins, and the moment is found that the router keeps after it.
+fn run_and_find_due<D: Draw>(
+    alloc: Global,
+    state: &State,
+    next: &mut Running,
+    event: &Event<'_>,
+    now: Moment,
+    draw: &mut D,
+) -> Result<Moment, NoMemory>
+    requires router { IsRouter state.now }
+    requires not_before { state.now.moment ≤ now }
+    requires begun { next.old ≡ begun_at now state.now }
+    ensures ran { OnOk result (IsEvent (plain_event event.now) (begun_at now state.now) next.new) }
+    ensures drew { OnOk result (Took (D.words draw.old) next.new.done.words (D.words draw.new)) }
+    ensures due { IfOk result (IsDueAfter (plain_event event.now) (begun_at now state.now) next.new) }
+{
+    router_stays_later();
+    run(alloc, next, event, draw)?;
+    let due = due_after(alloc, event, now, state, next)?;
+    Ok(due)
+}
+
 // The state of a router after an event at a moment, and what came of it.
 fn run_to<D: Draw>(
     alloc: Global,
@@ -224,17 +247,22 @@ fn run_to<D: Draw>(
     ensures happened { IfOk result (λ r. Happened now (plain_event event.now) state.now r.0 r.1) }
     ensures drew { IfOk result (λ r. Took (D.words draw.old) r.1.words (D.words draw.new)) }
 {
-    router_stays_later();
     let mut next = Running::begin(alloc, state, now)?;
-    run(alloc, &mut next, event, draw)?;
-    let due = due_after(alloc, event, now, state, &next)?;
-    let Running {
-        mut state,
-        done,
-        ..
-    } = next;
-    state.due = due;
-    Ok((state, done))
+    match run_and_find_due(alloc, state, &mut next, event, now, draw) {
+        Ok(due) => {
+            let Running {
+                mut state,
+                done,
+                ..
+            } = next;
+            state.due = due;
+            return Ok((state, done));
+        }
+        Err(error) => {
+            drop(next);
+            return Err(error);
+        }
+    }
 }
 
 impl Router {

@@ -4,6 +4,7 @@ ghost use Rattle.std.specs.Prelude.{◌≡◌, ◌++◌, ◌∷◌, [], ◌-◌,
 ghost use Rattle.std.specs.List.{filter_map};
 ghost use Rattle.std.specs.Option.{option_copied, option_map};
 ghost use Rattle.hn_data.specs.View.{IsNetwork};
+ghost use Rattle.hn_hash.specs.Network.{part_entry, part_text};
 ghost use Rattle.hn_rules.specs.Nodes.{age_at, held_entry, own_entry, held_entries, nodes_of, entry_of, leaf_of, leaves_of};
 ghost use Rattle.hn_rules.specs.Nodes.{own_leaf, part_of, parts_of, IsReach};
 
@@ -14,6 +15,18 @@ use hn_graph::reach;
 use hn_hash::{Leaf, Part};
 use hn_store::{OwnLeaf, Stored};
 use std::alloc::Global;
+
+/// How many bytes a part adds to the hashed text.
+const ENTRY_BYTES: usize = 12;
+
+/// Adds to the hashed text what a part adds to it: the sequence number and the hash of the node data (RFC 7787, section 4.1).
+fn add_entry(text: &mut Vec<u8>, part: &Part) -> Result<(), NoMemory>
+    ensures { OnOk result (text.new.items ≡ text.old.items ++ part_entry part.now) }
+{
+    text.extend_from_slice(&part.number.to_be_bytes())?;
+    text.extend_from_slice(&part.hash)?;
+    Ok(())
+}
 
 /// The age of held node data, in milliseconds.
 pub(crate) fn age_at(now: Moment, stored: &Stored) -> u64
@@ -123,18 +136,19 @@ impl State {
         }
     }
 
-    /// The parts of the reachable nodes.
-    pub(crate) fn parts(&self, alloc: Global) -> Result<Vec<Part>, NoMemory>
-        ensures { IfOk result (λ parts. parts.items ≡ parts_of self.now) }
+    /// The parts of the reachable nodes, one after the other, as they are hashed (RFC 7787, section 4.1).
+    pub(crate) fn parts(&self, alloc: Global) -> Result<Vec<u8>, NoMemory>
+        ensures { IfOk result (λ text. text.items ≡ part_text (parts_of self.now)) }
     {
-        let mut parts = Vec::with_capacity(alloc, self.reach.get().as_slice().len())?;
+        let count = self.reach.get().as_slice().len();
+        let mut text = Vec::with_capacity(alloc, count.saturating_mul(ENTRY_BYTES))?;
         let mut place = 0;
         for id in self.reach.get().as_slice() {
             if let Some(part) = self.part(*id, &mut place) {
-                parts.push(part)?;
+                add_entry(&mut text, &part)?;
             }
         }
-        Ok(parts)
+        Ok(text)
     }
 
     /// The age of the own node data, in milliseconds.

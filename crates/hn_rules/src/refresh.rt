@@ -18,7 +18,7 @@ use crate::state::State;
 use hn_base::{EpId, Moment, NoMemory, NodeIds, Shared};
 use hn_data::NodeData;
 use hn_graph::{AGE_LIMIT, reachability_stays, same_links_reach};
-use hn_hash::{network_of, same_hash};
+use hn_hash::{h, same_hash};
 use hn_io::Draw;
 use hn_own::{OwnData, OwnItems};
 use hn_timers::SHORTEST_INTERVAL;
@@ -85,8 +85,8 @@ impl State {
     fn network_state_hash(&self, alloc: Global) -> Result<[u8; 8], NoMemory>
         ensures { IfOk result (λ hash. hash ≡ network_state_hash self.now) }
     {
-        let parts = self.parts(alloc)?;
-        Ok(network_of(parts.as_slice()))
+        let text = self.parts(alloc)?;
+        Ok(h(text.as_slice()))
     }
 }
 

@@ -1,5 +1,5 @@
 -- What a router advertises on an endpoint (RFC 4861, sections 4.2 and 4.6.2; RFC 7788, section 7).
-use Rattle.std.specs.Prelude.{◌≡◌, ◌↔◌, ◌⊎◌, ℕ, IsTrue, List, map, Option, is_some, Contains}
+use Rattle.std.specs.Prelude.{◌≡◌, ◌↔◌, ◌⊎◌, ℕ, ◌<◌, Bool, IsTrue, List, map, Option, Some, is_some, Contains}
 use Rattle.std.specs.List.Sorted.{IsStrictlySortedBy}
 use Rattle.hn_base.specs.declared.ids.NodeId.{NodeId}
 use Rattle.hn_base.specs.declared.ids.EpId.{EpId}
@@ -8,6 +8,10 @@ use Rattle.hn_base.specs.Prefix.{prefix_cmp}
 use Rattle.hn_advert.specs.declared.advert.Advert.{Advert}
 use Rattle.hn_advert.specs.declared.advert.Info.{Info}
 use Rattle.hn_advert.specs.Advert.{advert_bytes}
+use Rattle.hn_typed.specs.Item.{PlainCaps}
+use Rattle.hn_data.specs.Items.{HasItems}
+use Rattle.hn_data.specs.Said.{version_of}
+use Rattle.hn_data.specs.declared.view.Entry.{Entry}
 use Rattle.hn_assign.specs.declared.assigned.Assigned.{Assigned}
 use Rattle.hn_deleg.specs.declared.delegated.Delegated.{Delegated}
 use Rattle.hn_deleg.specs.Used.{AreUsable, IsOutside, whole_seconds}
@@ -38,6 +42,14 @@ pub record AreInfos (s : State) (e : EpId) (infos : List Info) : Type 0 where
 -- 1800 seconds where a reachable node with an HNCP-Version has a connection to the outside, and else 0
 abbrev pub IsLifetime : State → ℕ → Type 0
 IsLifetime s lifetime = (IsOutside (seen_by s) × (lifetime ≡ 1800)) ⊎ (¬ IsOutside (seen_by s) × (lifetime ≡ 0))
+
+-- a node offers capability H
+abbrev pub GivesAddresses : Entry → Type 0
+GivesAddresses node = (caps : PlainCaps) × HasItems node.body (λ items. version_of items ≡ Some caps) × (0 < caps.h)
+
+-- it is whether somebody is elected for capability H on the Common Link of an endpoint
+abbrev pub IsManaged : State → EpId → Bool → Type 0
+IsManaged s e managed = (who : Option NodeId) × IsElectedAt s e H who × (managed ≡ is_some who)
 
 -- the advertisement on an endpoint at the router's moment
 pub record IsAdvertAt (s : State) (e : EpId) (a : Advert) : Type 0 where

@@ -1,20 +1,23 @@
 //! What a router advertises on an endpoint (RFC 4861, sections 4.2 and 4.6.2; RFC 7788, section 7).
 
-ghost use Rattle.std.specs.Prelude.{◌≡◌, ◌≢◌, ◌^◌, ◌<◌, All, Contains, IfOk, IfSome, IfNone};
+ghost use Rattle.std.specs.Prelude.{◌≡◌, ◌≢◌, ◌↔◌, ◌^◌, ◌<◌, All, Any, Contains, IsTrue, IfOk, IfSome, IfNone};
 ghost use Rattle.hn_base.specs.Prefix.{IsPrefix};
 ghost use Rattle.hn_data.specs.View.{plain_view};
 ghost use Rattle.hn_deleg.specs.Used.{whole_seconds};
 ghost use Rattle.hn_rules.specs.Seen.{seen_by};
-ghost use Rattle.hn_router.specs.Advertising.{AreInfos, IsLifetime, IsAdvertAt, IsAdvertBytes};
+ghost use Rattle.hn_router.specs.Advertising.{AreInfos, GivesAddresses, IsManaged, IsLifetime};
+ghost use Rattle.hn_router.specs.Advertising.{IsAdvertAt, IsAdvertBytes};
 ghost use Rattle.hn_router.specs.Infos.{FitsFields, IsInfoFrom, HasNoInfo};
 
 use crate::router::Router;
 use hn_advert::{Advert, Info, Infos, bytes};
 use hn_assign::Assigned;
 use hn_base::{Bytes, EpId, Letter, NoMemory};
-use hn_data::View;
+use hn_data::{Entry, View, version};
 use hn_deleg::{Delegated, inside_keeps_the_order, lifetimes_fit, outside, used, whole_seconds};
+use hn_link::common_link_exists;
 use hn_prefix::Prefix;
+use hn_rules::view_is_a_network;
 use std::alloc::Global;
 
 /// The lifetime in seconds of a router that has a way to the outside.
@@ -56,6 +59,23 @@ fn info_of(usable: &[Delegated], e: EpId, c: &Assigned) -> Option<Info>
     })
 }
 
+/// Whether a node offers capability H: it gives addresses by DHCPv6.
+fn gives_addresses(node: &Entry) -> bool
+    ensures { IsTrue result ↔ GivesAddresses node.now }
+{
+    match version(&node.body) {
+        Some(caps) => caps.h > 0,
+        None => false,
+    }
+}
+
+/// Whether some node does.
+fn are_addresses_given(nodes: &[Entry]) -> bool
+    ensures { IsTrue result ↔ Any GivesAddresses nodes.now }
+{
+    nodes.iter().any(gives_addresses)
+}
+
 impl Router {
     /// The prefixes that an endpoint advertises, in ascending order, with their lifetimes.
     fn infos(&self, alloc: Global, view: &View<'_>, e: EpId) -> Result<Infos, NoMemory>
@@ -72,6 +92,20 @@ impl Router {
             }
         }
         Ok(infos)
+    }
+
+    /// Whether a node is elected for capability H on an endpoint's Common Link. Where no node offers it, none is asked.
+    fn is_managed(&self, alloc: Global, view: &View<'_>, e: EpId) -> Result<bool, NoMemory>
+        requires { plain_view view.now ≡ seen_by self.now }
+        ensures { IfOk result (IsManaged self.now e) }
+    {
+        view_is_a_network();
+        common_link_exists();
+        self.is_router();
+        if !are_addresses_given(view.nodes) {
+            return Ok(false);
+        }
+        Ok(self.elected_in(alloc, view, e, Letter::H)?.is_some())
     }
 
     /// The lifetime in seconds as a default router; 0 is that of a router that is none.
@@ -100,7 +134,7 @@ impl Router {
     {
         let nodes = self.nodes(alloc)?;
         let view = self.view(nodes.as_slice());
-        let managed = self.elected_in(alloc, &view, e, Letter::H)?.is_some();
+        let managed = self.is_managed(alloc, &view, e)?;
         Ok(Advert {
             managed,
             other: managed,

@@ -1,12 +1,14 @@
 //! One exchange: a router asks another one for the network state, and each datagram of this is delivered at once.
 
-ghost use Rattle.std.specs.Prelude.{◌≡◌, ◌⊎◌, ◌+◌, ℕ, List, None, Some, Err, OnOk};
+ghost use Rattle.std.specs.Prelude.{◌≡◌, ◌⊎◌, ◌+◌, ℕ, List, None, Some, Err, OnOk, OnErr};
 ghost use Rattle.hn_base.specs.Words.{Took};
+ghost use Rattle.hn_rules.specs.declared.done.Note.{Note};
 ghost use Rattle.hn_world.specs.declared.event.Traced.{Traced};
 ghost use Rattle.hn_world.specs.declared.event.WEvent.{WEvent};
 ghost use Rattle.hn_world.specs.declared.parts.Parts.{Parts};
 ghost use Rattle.hn_world.specs.Refusal.{refusal};
 ghost use Rattle.hn_world.specs.Replay.{words_of_trace};
+ghost use Rattle.hn_world.specs.Step.{IsStep};
 ghost use Rattle.hn_sync.specs.Exchange.{CopiesAreDelivered, ExchangesSoFar, HasAnEnd, IsCutOff, ExchangeStopsAt, unless_exchange};
 ghost use Rattle.hn_sync.specs.Repairs.{Repairs};
 
@@ -61,6 +63,26 @@ pub trait Exchange {
         ensures exists { unless_exchange a.now b.now (parts self.old) ≡ None → HasAnEnd a.now b.now (parts self.old) };
 }
 
+/// The copy of a number is delivered.
+///
+/// # Errors
+///
+/// `Refused`, and out of memory. The world is as before then.
+fn deliver<D: Draw>(
+    world: &mut World,
+    alloc: Global,
+    copy: u64,
+    draw: &mut D,
+) -> Result<(), WorldFault>
+    ensures ok { OnOk result ((notes : List Note) × IsStep (WEvent.Deliver copy) notes (D.words draw.old) (D.words draw.new) world.old world.new) }
+    ensures refused { (code : ℕ) → result ≡ Err (WorldFault.Refused code) → refusal world.old (WEvent.Deliver copy) ≡ Some code }
+    ensures err { OnErr result (world.new ≡ world.old) }
+    ensures undrawn { (code : ℕ) → result ≡ Err (WorldFault.Refused code) → draw.new ≡ draw.old }
+{
+    world.apply(alloc, WEvent::Deliver { copy }, draw)?;
+    Ok(())
+}
+
 /// The copies after so many are delivered, in ascending number, new ones included, until every one was.
 ///
 /// # Errors
@@ -84,7 +106,7 @@ fn deliver_after<D: Draw>(
     let mut delivered = copies;
     while delivered < world.copies() {
         let copy = delivered + 1;
-        world.apply(alloc, WEvent::Deliver { copy }, draw)?;
+        deliver(world, alloc, copy, draw)?;
         delivered = copy;
     }
     Ok(())

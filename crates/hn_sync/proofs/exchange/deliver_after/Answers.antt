@@ -9,19 +9,19 @@ loop-delivered-preserved g c =
     let told = g.D.Draw.words in
     let at = c.loop-delivered in
     came_more c.words_join.ensures c.args.copies at.delivered (told c.args.draw.now) (told at.draw)
-    (told c.apply.new.draw) c.args.world.now at.world c.apply.new.self c.in_ok-apply.field-0 at.invariant c.in_ok-apply.ensures.ok
+    (told c.deliver.new.draw) c.args.world.now at.world c.deliver.new.world c.in_ok-deliver.ensures.ok.0 at.invariant c.in_ok-deliver.ensures.ok.1
 
-pub returns-in_err-apply-clause-refused : goal.returns-in_err-apply-clause-refused
-returns-in_err-apply-clause-refused g c = λ code failed.
+pub returns-in_err-deliver-clause-refused : goal.returns-in_err-deliver-clause-refused
+returns-in_err-deliver-clause-refused g c = λ code failed.
     let told = g.D.Draw.words in
     let at = c.loop-delivered in
     let exit = err_from_is_err_and c.from_residual.result c.from_residual.ensures.1 in
-    let is : c.in_err-apply.field-0.0 ≡ fault.Refused code = sym exit.2 ∙ same_error _ _ (sym exit.1 ∙ failed) in
-    refused_then c.args.copies at.delivered (told c.args.draw.now) (told at.draw) c.args.world.now at.world c.apply.new.self c.in_err-apply.ensures.err at.invariant (omega arith)
-    (told c.apply.new.draw) (ap told (c.in_err-apply.ensures.undrawn code (ap Err is))) code ((c.in_err-apply.ensures.refused code).0 (ap Err is))
+    let is : c.in_err-deliver.field-0.0 ≡ fault.Refused code = sym exit.2 ∙ same_error _ _ (sym exit.1 ∙ failed) in
+    refused_then c.args.copies at.delivered (told c.args.draw.now) (told at.draw) c.args.world.now at.world c.deliver.new.world c.in_err-deliver.ensures.err at.invariant (omega arith)
+    (told c.deliver.new.draw) (ap told (c.in_err-deliver.ensures.undrawn code (ap Err is))) code (c.in_err-deliver.ensures.refused code (ap Err is))
 
-pub returns-in_err-apply-clause-starved : goal.returns-in_err-apply-clause-starved
-returns-in_err-apply-clause-starved g c = λ failed.
+pub returns-in_err-deliver-clause-starved : goal.returns-in_err-deliver-clause-starved
+returns-in_err-deliver-clause-starved g c = λ failed.
     let told = g.D.Draw.words in
     let at = c.loop-delivered in
-    cut_then c.args.copies at.delivered (told c.args.draw.now) (told at.draw) c.args.world.now at.world c.apply.new.self c.in_err-apply.ensures.err at.invariant (omega arith)
+    cut_then c.args.copies at.delivered (told c.args.draw.now) (told at.draw) c.args.world.now at.world c.deliver.new.world c.in_err-deliver.ensures.err at.invariant (omega arith)

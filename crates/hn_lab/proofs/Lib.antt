@@ -42,5 +42,8 @@ mod SomeReports
 mod SomeChoices
 mod SomeLines
 mod Transcripts
+mod OpenLines
+mod OpenPlays
+mod OpenTranscripts
 mod RunsInTurns
 mod CalmLines

@@ -20,10 +20,13 @@ pub mod Syncing
 pub mod Report
 pub mod Line
 pub mod Play
+pub mod Open
 pub mod Output
 pub mod Laws
+pub mod Course
 pub mod Breaking
 pub mod Lab
 pub mod Existing
 pub mod Transcripts
 pub mod Resting
+pub mod OpenTranscript

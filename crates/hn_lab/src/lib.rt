@@ -6,6 +6,7 @@ mod advert_report;
 mod audit_report;
 mod carrying;
 mod choosing;
+mod course;
 mod delivery;
 mod end;
 mod existing;
@@ -15,6 +16,7 @@ mod line;
 mod lines;
 mod notes;
 mod of_line;
+mod open;
 mod output;
 mod playing;
 mod plays;
@@ -28,8 +30,10 @@ mod sending;
 mod set;
 mod stream;
 mod syncing;
+mod text_so_far;
 mod ula_report;
 
+pub use course::OpenFault;
 pub use end::End;
 pub use existing::{
     lab_is_of_transcript, play_exists, play_is_of_transcript, script_has_a_play, transcript_exists,
@@ -40,6 +44,7 @@ pub use law::{
     mail_delivers, run_keeps_calm, wire_fails_at_a_copy,
 };
 pub use notes::note_line;
+pub use open::{OpenPlay, lab_plays_the_source, lines_go_on, plain_refusals_change_nothing};
 pub use scripts::{
     DONE, NO_MEMORY, Played, REFUSED, SINK_FAILED, SOURCE_FAILED, WIRE_FAILED, lab, play,
 };

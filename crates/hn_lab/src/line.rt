@@ -1,4 +1,4 @@
-ghost use Rattle.std.specs.Prelude.{◌≡◌, ◌≢◌, ℕ, List, None, Err, IsTrue};
+ghost use Rattle.std.specs.Prelude.{◌≡◌, ◌≢◌, ℕ, List, None, Err, IsSome, IsTrue};
 ghost use Rattle.hn_base.specs.declared.version.Version.{Version};
 ghost use Rattle.hn_io.specs.Faults.{IsCaused};
 ghost use Rattle.hn_script.specs.Laws.{IsLimited};
@@ -158,6 +158,7 @@ fn said<W, C: Carrier<W>>(
     ensures ends { (text : List Told) → EndsLeaving (EndsAs line (report_of line)) result
         (stage_of playing.old (C.route carrier.now outside.old) text)
         (stage_of playing.new (C.route carrier.now outside.new) text) }
+    ensures looks { IsSome (report_of line) → playing.new ≡ playing.old }
     ensures caused { IsCaused (result ≡ Err Stop.WireFailed) (C.faults outside.old) (C.faults outside.new)
         (C.never_fails outside.old) (C.never_fails outside.new) }
 {
@@ -181,6 +182,7 @@ fn told<K: Sink, W, C: Carrier<W>>(
     ensures ends { (text : List Told) → EndsWriting (EndsAs line (report_of line)) result
         (stage_of playing.old (C.route carrier.now outside.old) text)
         (stage_of playing.new (C.route carrier.now outside.new) text) (K.held out.old) (K.held out.new) }
+    ensures looks { IsSome (report_of line) → playing.new ≡ playing.old }
     ensures caused { IsCaused (result ≡ Err Stop.WireFailed) (C.faults outside.old) (C.faults outside.new)
         (C.never_fails outside.old) (C.never_fails outside.new) }
     ensures sink_caused { IsCaused (result ≡ Err (Stop.Cut IoFault.Failed)) (K.faults out.old) (K.faults out.new)
@@ -190,7 +192,8 @@ fn told<K: Sink, W, C: Carrier<W>>(
     Ok(write_lines(out, &lines)?)
 }
 
-/// A line of a script of some version. Each line of text is written right when it comes up.
+/// A line of a script of some version. Each line of text is written right when it comes up. A report changes nothing but the
+/// text, also where memory ended.
 ///
 /// # Errors
 ///
@@ -208,6 +211,7 @@ pub(crate) fn play_line<K: Sink, W, C: Carrier<W>>(
     ensures ends { (text : List Told) → EndsWriting (LineEnds line) result
         (stage_of playing.old (C.route carrier.now outside.old) text)
         (stage_of playing.new (C.route carrier.now outside.new) text) (K.held out.old) (K.held out.new) }
+    ensures looks { IsSome (report_of line) → playing.new ≡ playing.old }
     ensures caused { IsCaused (result ≡ Err Stop.WireFailed) (C.faults outside.old) (C.faults outside.new)
         (C.never_fails outside.old) (C.never_fails outside.new) }
     ensures sink_caused { IsCaused (result ≡ Err (Stop.Cut IoFault.Failed)) (K.faults out.old) (K.faults out.new)

@@ -1,5 +1,6 @@
-use Rattle.hn_base.proofs.Names.{◌≡◌, ◌∙◌, Option, None, sym, subst, refl}
+use Rattle.hn_base.proofs.Names.{◌≡◌, ◌∙◌, Option, None, IsSome, sym, subst, refl}
 use Rattle.hn_lab.proofs.Names.{Line, WEvent, Stop, EventEnds, Runs, LineEnds, EndsAs, EndsBy, Follows, event_of, report_of, ThenProcess, Stage, stage_of}
+use Rattle.hn_lab.proofs.OpenLines.{report_no_event, run_is_no_report}
 use Rattle.hn_lab.proofs.RunWrites.{writing_as}
 use Rattle.hn_lab.proofs.line.play_line.Goals as goal
 
@@ -30,3 +31,16 @@ returns-in-Err-clause-ends g c text =
     let is = c.in-Err.ensures.other c.in-Err.line refl in
     writing_as (EndsAs c.in-Err.line (report_of c.in-Err.line)) (LineEnds c.args.line) c.told.result p a _ _
     (λ stop at h. other_ends c.args.line is.1 p stop at (subst (λ (l : Line). EndsAs l (report_of l) stop p at) is.0 h)) (c.told.ensures.ends text)
+
+pub returns-in-Ok-clause-looks : goal.returns-in-Ok-clause-looks
+returns-in-Ok-clause-looks g c some = absurd (report_no_event c.args.line c.in-Ok.event some c.in-Ok.ensures.event)
+
+pub returns-in-Err-Run-clause-looks : goal.returns-in-Err-Run-clause-looks
+returns-in-Err-Run-clause-looks g c some =
+    let is = c.in-Err-Run.ensures.other c.in-Err-Run.field-0 refl in
+    absurd (run_is_no_report c.args.line c.in-Err-Run.end c.in-Err-Run.step (sym is.0 ∙ c.in-Err-Run.field-0-is) some)
+
+pub returns-in-Err-clause-looks : goal.returns-in-Err-clause-looks
+returns-in-Err-clause-looks g c some =
+    let is = c.in-Err.ensures.other c.in-Err.line refl in
+    c.told.ensures.looks (subst (λ (l : Line). IsSome (report_of l)) (sym is.0) some)

@@ -1,4 +1,4 @@
-use Rattle.hn_base.proofs.Names.{◌≡◌, ◌∙◌, Option, None, Some, inl, sym, refl, subst}
+use Rattle.hn_base.proofs.Names.{◌≡◌, ◌∙◌, Option, None, Some, IsSome, inl, sym, refl, subst}
 use Rattle.hn_lab.proofs.Names.{Report, EndsLeaving, EndsAs, OtherEnds, report_of, ReportEnds, stage_of}
 use Rattle.hn_lab.proofs.LineEnds.{report_answered}
 use Rattle.hn_lab.proofs.RunAnswers.{leaves_so}
@@ -21,3 +21,9 @@ returns-in-None-clause-ends g c text =
     let is : report_of c.args.line ≡ None = sym c.report_of.ensures ∙ c.in-None.is in
     leaving_within (OtherEnds c.args.line) (EndsAs c.args.line (report_of c.args.line)) c.other.result p a
     (λ stop at h. subst (λ (o : Option Report). EndsAs c.args.line o stop p at) (sym is) h) (c.other.ensures.ends text)
+
+pub returns-in-None-clause-looks : goal.returns-in-None-clause-looks
+returns-in-None-clause-looks g c some =
+    let is : report_of c.args.line ≡ None = sym c.report_of.ensures ∙ c.in-None.is in
+    let none = subst (λ (o : Option Report). IsSome o) is some in
+    absurd cc

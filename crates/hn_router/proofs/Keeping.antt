@@ -1,13 +1,17 @@
 -- The moment that a router keeps: no fact of a router looks at it, and where it is after the router's, each tick before it does
 -- nothing.
 use Rattle.hn_base.proofs.Names.{◌≡◌, ◌∙◌, ◌<◌, ◌≤◌, ℕ, List, inl, inr, refl, sym, ap, subst, slice_index, arith, Begins}
-use Rattle.hn_router.proofs.Names.{Delegated, Done, Running, State, nothing, IsNextDue, IsIdleTick, RouterStaysLater, IsRouter, IsSole, begun_at, at_moment, IsTick, PlainEvent, Tick, IsEvent}
+use Rattle.hn_router.proofs.Names.{Delegated, Done, Running, State, nothing, after_passing, IsNextDue, IsIdleTick, RouterStaysLater, IsRouter, IsSole}
+use Rattle.hn_router.proofs.Names.{begun_at, at_moment, IsTick, PlainEvent, Tick, IsEvent}
 use Rattle.hn_router.proofs.Names.{DidNothing, IsDueAfter, IsKeptRouter}
 use Rattle.hn_assign.specs.declared.assigned.Wish.{Wish}
 use Rattle.hn_rules.specs.Assigning.{AreAsked}
-use Rattle.hn_rules.specs.Laws.{UndueIsIdle, IdleIsUndue, IdleUntilDue, NextDueIsOne}
+use Rattle.hn_rules.specs.declared.arrival.passing.Passing.{Passing}
+use Rattle.hn_rules.specs.Due.{IsUndueUntil}
+use Rattle.hn_rules.specs.Laws.{UndueIsIdle, IdleIsUndue, IdleUntilDue, IdleWhileUndue, NextDueIsOne, PassingKeepsUndue}
 use Rattle.hn_rules.specs.Undue.{IsRouterUndue}
 use Rattle.hn_router.specs.Act.{Happened}
+use Rattle.hn_router.specs.Kept.{IsKeptUntil}
 
 -- ---- no fact of a router looks at it
 
@@ -110,25 +114,57 @@ kept_happened laws now event s next done router rises (after, ran, (due, is_due,
 
 -- ---- a tick before something is due
 
-pub kept_later : KeptLaws → IdleUntilDue → (now : ℕ) (s : State) → IsKeptRouter s → s.moment ≤ now → now < s.due → IsKeptRouter (at_moment now s)
-kept_later laws until now s kept rises undue =
-    let was = kept.due (omega arith) in
-    let is = until s now s.due kept.router rises undue was.0 was.1 in
-    record { router = laws.later now s kept.router rises; due = λ later. (idle_there laws now s.due s kept.router rises is.0, is.1) }
+-- until what is next due nothing is
+pub kept_until : (s : State) → IsKeptRouter s → IsKeptUntil s.due s
+kept_until s kept = record { kept = kept; undue = λ later. let (idle, next) = kept.due later in (idle, next.least) }
+
+pub kept_later : KeptLaws → IdleUntilDue → IdleWhileUndue → (now until : ℕ) (s : State) → IsKeptUntil until s → s.moment ≤ now → now < s.due
+    → IsKeptUntil until (at_moment now s)
+kept_later laws until_due while now until s is rises undue =
+    let was = is.kept.due (omega arith) in
+    let next = until_due s now s.due is.kept.router rises undue was.0 was.1 in
+    record {
+      kept = record { router = laws.later now s is.kept.router rises; due = λ later. (idle_there laws now s.due s is.kept.router rises next.0, next.1) };
+      undue = λ later.
+          let before = is.undue (omega arith) in
+          let stays = while s now until is.kept.router rises later before.0 before.1 in
+          (idle_there laws now s.due s is.kept.router rises stays.0, stays.1);
+    }
 
 pub idle_later : IdleUntilDue → (now : ℕ) (s : State) → IsKeptRouter s → s.moment ≤ now → now < s.due → IsIdleTick now s × IsNextDue (at_moment now s) s.due
 idle_later until now s kept rises undue =
     let was = kept.due (omega arith) in
     until s now s.due kept.router rises undue was.0 was.1
 
-pub passed : (now : ℕ) (s : State) → IsIdleTick now s → IsNextDue (at_moment now s) s.due → Happened now Tick s (at_moment now s) nothing
+-- such a tick is the event, and the router keeps then what is next due
+pub rested : (now due : ℕ) (s : State) → IsIdleTick now s → IsNextDue (at_moment now s) due → Happened now Tick s (record s { moment = now; due = due }) nothing
 unfolding Happened
-passed now s (after, ran, same, none) next = (
+rested now due s (after, ran, same, none) next = (
   after,
   inr (refl, ran),
-  (s.due, inl ((refl, same, none), subst (λ (x : State). IsNextDue x s.due) (sym same) next), ap (λ (x : State). record x { due = s.due }) (sym same)),
+  (due, inl ((refl, same, none), subst (λ (x : State). IsNextDue x due) (sym same) next), ap (λ (x : State). record x { due = due }) (sym same)),
   sym none,
 )
+
+pub undue_later : IdleWhileUndue → (now until : ℕ) (s : State) → IsRouter s → (s.moment < until → IsIdleTick s.moment s × IsUndueUntil until s) → s.moment ≤ now → now < until
+    → IsIdleTick now s × IsUndueUntil until (at_moment now s)
+undue_later while now until s router is rises undue =
+    let was = is (omega arith) in
+    while s now until router rises undue was.0 was.1
+
+-- ---- an arrival that is let pass
+
+pub kept_passed : PassingKeepsUndue → (p : Passing) (now until next : ℕ) (s : State) → IsKeptUntil until s → IsRouter (after_passing p now s)
+    → (0 < next → (s.moment ≤ now) × (next ≡ until)) → IsKeptUntil next (after_passing p now s)
+kept_passed keeps p now until next s is router still = record {
+  kept = record { router = router; due = λ later. absurd (omega arith) };
+  undue = λ later.
+      let (rises, same) = still (omega arith) in
+      let before : now < until = omega (arith, later, same) in
+      let was = is.undue (omega (arith, rises, before)) in
+      let after = keeps s p now until is.kept.router router rises before was.0 was.1 in
+      subst (λ (n : ℕ). IsIdleTick now (after_passing p now s) × IsUndueUntil n (after_passing p now s)) (sym same) after;
+}
 
 -- ---- after a tick that does nothing
 

@@ -15,7 +15,7 @@ ghost use Rattle.hn_deleg.specs.Used.{AreUsable};
 ghost use Rattle.hn_own.specs.HeldPairs.{AreHeldPairs, no_pairs};
 ghost use Rattle.hn_link.specs.CommonLink.{IsCommonLink};
 ghost use Rattle.hn_rules.specs.Done.{nothing};
-ghost use Rattle.hn_rules.specs.Due.{IsNextDue};
+ghost use Rattle.hn_rules.specs.Due.{IsNextDue, IsUndueUntil};
 ghost use Rattle.hn_rules.specs.Lasting.{LastsBefore};
 ghost use Rattle.hn_rules.specs.Router.{IsRouter};
 ghost use Rattle.hn_rules.specs.Idle.{IsIdleTick};
@@ -46,7 +46,8 @@ use hn_own::{Addresses, HeldPairs, OwnData, OwnItems, OwnPrefixes, Ports};
 use hn_prefix::Prefix;
 use hn_rules::{
     Done, Origin, Passing, Present, Running, State, idle_is_undue, idle_until_due,
-    router_stays_later, rules_have_one_result, undue_is_idle, view_is_a_network,
+    idle_while_undue, passing_keeps_undue, router_stays_later, rules_have_one_result,
+    undue_is_idle, view_is_a_network,
 };
 use hn_store::{LIMIT, Table};
 use std::alloc::Global;
@@ -56,17 +57,20 @@ use std::marker::Model;
 #[derive(Drop)]
 pub struct Router {
     state: State,
+    /// Where this is after the router's moment, each tick before it does nothing. It is the `due` of the state, which is
+    /// forgotten where an arrival is let pass: this is kept then.
+    undue_until: Moment,
 }
 
 impl Model for Router {
     ghost use Rattle.hn_rules.specs.declared.state.State.{State};
-    ghost use Rattle.hn_router.specs.Kept.{IsKeptRouter};
+    ghost use Rattle.hn_router.specs.Kept.{IsKeptUntil};
 
     ghost Value = { State };
 
     ghost view = { λ r. r.state };
 
-    ghost invariant = { λ r. IsKeptRouter r.state };
+    ghost invariant = { λ r. IsKeptUntil r.undue_until r.state };
 }
 
 /// The next state of a router, which is one, and what came of the event.
@@ -233,10 +237,35 @@ fn run_and_find_due<D: Draw>(
     Ok(due)
 }
 
-// The state of a router after an event at a moment, and what came of it.
+// The state of a router after a tick that does nothing, where nothing is due before a moment, and what came of the tick.
+fn rest_to(
+    alloc: Global,
+    state: &State,
+    until: Moment,
+    now: Moment,
+) -> Result<(State, Done), NoMemory>
+    requires in_range { now ≤ 2 ^ 48 }
+    requires idle { IsIdleTick now state.now }
+    requires undue { IsUndueUntil until (at_moment now state.now) }
+    ensures happened { IfOk result (λ r. Happened now Tick state.now r.0 r.1) }
+    ensures nothing { IfOk result (λ r. r.1 ≡ nothing) }
+{
+    let next = Running::begin(alloc, state, now)?;
+    let due = next.state.next_due_from(alloc, until)?;
+    let Running {
+        mut state,
+        done,
+        ..
+    } = next;
+    state.due = due;
+    Ok((state, done))
+}
+
+// The state of a router after an event at a moment, and what came of it. Nothing is due for the router before `until`.
 fn run_to<D: Draw>(
     alloc: Global,
     state: &State,
+    until: Moment,
     event: &Event<'_>,
     now: Moment,
     draw: &mut D,
@@ -244,9 +273,15 @@ fn run_to<D: Draw>(
     requires router { IsRouter state.now }
     requires not_before { state.now.moment ≤ now }
     requires in_range { now ≤ 2 ^ 48 }
+    requires undue { state.now.moment < until → IsIdleTick state.now.moment state.now × IsUndueUntil until state.now }
     ensures happened { IfOk result (λ r. Happened now (plain_event event.now) state.now r.0 r.1) }
     ensures drew { IfOk result (λ r. Took (D.words draw.old) r.1.words (D.words draw.new)) }
 {
+    idle_while_undue();
+    if is_tick(event) && now < until {
+        let (state, done) = rest_to(alloc, state, until, now)?;
+        return Ok((state, done));
+    }
     let mut next = Running::begin(alloc, state, now)?;
     match run_and_find_due(alloc, state, &mut next, event, now, draw) {
         Ok(due) => {
@@ -263,6 +298,14 @@ fn run_to<D: Draw>(
             return Err(error);
         }
     }
+}
+
+// Before which moment nothing is due once an arrival is let pass at a moment: still this one, if that is not before the
+// router's.
+fn still_undue(until: Moment, before: Moment, now: Moment) -> Moment
+    ensures { 0 < result → (before ≤ now) × (result ≡ until) }
+{
+    if before <= now { until } else { 0 }
 }
 
 impl Router {
@@ -293,7 +336,10 @@ impl Router {
         let items = first_items(alloc)?;
         let own = OwnData::new(alloc, items, now)?;
         let state = new_state(alloc, id, now, limit, own)?;
-        Ok(Router { state })
+        Ok(Router {
+            state,
+            undue_until: 0,
+        })
     }
 
     /// It cannot be that an event has no result. Does nothing: call it to know its law.
@@ -335,7 +381,7 @@ impl Router {
         idle_is_undue();
         undue_is_idle();
         event_in_range(event);
-        let (state, done) = run_to(alloc, &self.state, event, now, draw)?;
+        let (state, done) = run_to(alloc, &self.state, self.undue_until, event, now, draw)?;
         Ok(Plan { state, done })
     }
 
@@ -346,6 +392,7 @@ impl Router {
         ensures done { result ≡ plan.done }
     {
         let Plan { state, done } = plan;
+        self.undue_until = state.due;
         self.state = state;
         done
     }
@@ -362,6 +409,7 @@ impl Router {
     {
         router_stays_later();
         idle_until_due();
+        idle_while_undue();
         idle_is_undue();
         undue_is_idle();
         self.state.moment = Present::new(now);
@@ -406,7 +454,11 @@ impl Router {
         ensures ok { OnOk result (self.new ≡ after_passing passing now self.old) }
         ensures err { OnErr result (self.new ≡ self.old) }
     {
-        self.state.let_pass(passing, now)
+        passing_keeps_undue();
+        let until = still_undue(self.undue_until, self.state.moment.get(), now);
+        self.state.let_pass(passing, now)?;
+        self.undue_until = until;
+        Ok(())
     }
 
     /// An event happens to the router at a moment that is not before its own, and at most 2^48 ms. Each datagram that

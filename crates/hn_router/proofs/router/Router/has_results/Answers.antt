@@ -8,4 +8,4 @@ returns c =
     let s = c.self.inside.state in
     let rises : s.moment ≤ c.args.now = subst (λ (x : State). x.moment ≤ c.args.now) (sym c.self.view_is) c.requires in
     subst (λ (x : State). HasResults c.args.now event x) c.self.view_is
-    (c.event_has_a_result.ensures c.args.now event s c.self.invariant.router rises c.event_in_range.ensures c.event_of_bytes.ensures)
+    (c.event_has_a_result.ensures c.args.now event s c.self.invariant.kept.router rises c.event_in_range.ensures c.event_of_bytes.ensures)

@@ -21,4 +21,4 @@ returns-clause-router c =
     let rises : s.moment ≤ now = subst (λ (x : State). x.moment ≤ now) (sym c.self.view_is) c.requires.not_before in
     subst (λ (x : State). IfSome c.passing.result (λ p. IsRouter (after_passing p now x))) c.self.view_is
     (IfSome_then c.passing.result c.passing.ensures
-    (λ p passes. c.router_stays.ensures now (Arrive from bytes) s (after_passing p now s) nothing c.self.invariant.router rises tt (arrival_happened now from bytes s p passes)))
+    (λ p passes. c.router_stays.ensures now (Arrive from bytes) s (after_passing p now s) nothing c.self.invariant.kept.router rises tt (arrival_happened now from bytes s p passes)))

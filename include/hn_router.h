@@ -221,11 +221,11 @@ uint8_t hn_router_choose_addresses(hn_router *router, uint64_t now);
  * the endpoints are attached. */
 
 /* A prefix is preferred for the link of an endpoint, inside a delegated prefix, in place of what was for this pair before. Where
- * a tick gives the pair a new prefix and publishes it, this is the one, on three conditions: it has the length that the link
- * gets; it overlaps no prefix that is advertised then; and no other preferred pair loses its prefix by that. A later pair can
- * lose one, in the order of delegated prefix and endpoint. What is assigned already does not change, and an event never fails
- * for it. A tick may leave these to chance, if its random words times the pairs that miss their prefixes are more than 1,024: one
- * that comes seconds late, and makes dozens of assignments at once. Nothing forgets a preferred prefix: no detach, and no restart
+ * a tick gives the pair a new prefix and publishes it, this is the one, on two conditions: it has the length that the link gets,
+ * and it overlaps no prefix that is advertised when the turn of the pair comes. Pairs have their turns in the order of delegated
+ * prefix and endpoint, so that a later pair can lose its prefix. What is assigned already does not change, and an event never
+ * fails for it. A tick is planned once before it happens, and more often where pairs miss their prefixes: for each random word
+ * that it takes mostly twice, and at most once for each such pair. Nothing forgets a preferred prefix: no detach, and no restart
  * of the router. Out of range: no prefix; the one is not inside the other; the delegated prefix has fewer than 32 bits, or the
  * other more than 64; a 513th pair. */
 uint8_t hn_router_prefer(hn_router *router, uint32_t endpoint, const uint8_t delegated[16], uint8_t delegated_length, const uint8_t prefix[16], uint8_t length);

@@ -2,19 +2,24 @@
  * and hosts are told of prefixes that an earlier life advertised. */
 #include "advert.h"
 
-enum { OTHER_LINK = 2, LIVES = 20, MOST_PAIRS = 512, MOST_EARLIER = 64, SECOND = 1000 };
+enum { OTHER_LINK = 2, LIVES = 20, LATE_LIVES = 256, PLACES = 16, MOST_PAIRS = 512, MOST_EARLIER = 64, SECOND = 1000 };
 
 static const uint8_t wanted[16] = {0x20, 0x01, 0x0d, 0xb8, 0, 0, 0xab, 0xcd};
 static const uint8_t elsewhere[16] = {0x20, 0x01, 0x0d, 0xb9, 0, 0, 0xab, 0xcd};
 
 /* A router with a delegated prefix and two links. */
-static void make(hn_router *router, uint8_t life)
+static void make_in(hn_router *router, uint8_t life, uint8_t length)
 {
     uint8_t seed[32];
     seed_of(seed, life);
     CHECK(hn_router_new(router, 7, 0, seed) == 0);
     CHECK(hn_router_attach(router, 0, LINK) == 0 && hn_router_attach(router, 0, OTHER_LINK) == 0);
-    CHECK(hn_router_external(router, 0, some_prefix, 48, 36000, 18000) == 0);
+    CHECK(hn_router_external(router, 0, some_prefix, length, 36000, 18000) == 0);
+}
+
+static void make(hn_router *router, uint8_t life)
+{
+    make_in(router, life, 48);
 }
 
 static void run_for(hn_router *router, uint64_t seconds)
@@ -59,6 +64,62 @@ static void prefixes_are_kept(void)
         bool first = has(&router, LINK, wanted), other = has(&router, OTHER_LINK, second);
         CHECK(life % 2 != 0 ? first && other : first != other);
         CHECK(hn_router_assignments(&router) == 2);
+        hn_router_free(&router);
+    }
+}
+
+/* A router whose delegated prefix has 16 prefixes for links. Both links wait for theirs, and get them in one tick. */
+static void make_late(hn_router *router, uint8_t life, const uint8_t first[16], const uint8_t second[16])
+{
+    make_in(router, life, 60);
+    if (first != NULL)
+        CHECK(hn_router_prefer(router, LINK, some_prefix, 60, first, 64) == 0);
+    if (second != NULL)
+        CHECK(hn_router_prefer(router, OTHER_LINK, some_prefix, 60, second, 64) == 0);
+    CHECK(hn_router_tick(router, 1) == 0 && hn_router_assignments(router) == 0);
+    CHECK(hn_router_tick(router, 20 * SECOND) == 0 && hn_router_assignments(router) == 2);
+}
+
+static uint8_t place_of(hn_router *router, uint32_t endpoint)
+{
+    return assigned_to(router, endpoint).prefix[7];
+}
+
+/* The random words give the second link its prefix, and the first one another. With that of the first link the words would give
+ * the second one another, where both name one place: it got the next one. Both links have theirs all the same. */
+static void one_costs_no_other(void)
+{
+    int tried = 0;
+    for (int life = 0; life < LATE_LIVES; life++) {
+        hn_router router = {0};
+        uint8_t first[16], second[16];
+        make_late(&router, (uint8_t)life, NULL, NULL);
+        uint8_t place = place_of(&router, LINK), next = place_of(&router, OTHER_LINK);
+        hn_router_free(&router);
+        if (next != (place + 1) % PLACES)
+            continue;
+        memcpy(first, some_prefix, 16);
+        memcpy(second, some_prefix, 16);
+        first[7] = (uint8_t)((next + 1) % PLACES);
+        second[7] = next;
+        make_late(&router, (uint8_t)life, first, second);
+        CHECK(has(&router, LINK, first) && has(&router, OTHER_LINK, second));
+        hn_router_free(&router);
+        tried++;
+    }
+    CHECK(tried >= LATE_LIVES / PLACES);
+}
+
+/* Where both links want one prefix in one tick, the first one has it, since its turn comes first. */
+static void first_one_has_it(void)
+{
+    for (uint8_t life = 0; life < LIVES; life++) {
+        hn_router router = {0};
+        uint8_t one[16];
+        memcpy(one, some_prefix, 16);
+        one[7] = life % PLACES;
+        make_late(&router, life, one, one);
+        CHECK(has(&router, LINK, one) && !has(&router, OTHER_LINK, one));
         hn_router_free(&router);
     }
 }
@@ -183,6 +244,8 @@ static void few_are_taken(void)
 int main(void)
 {
     prefixes_are_kept();
+    one_costs_no_other();
+    first_one_has_it();
     nothing_else_changes();
     others_keep_theirs();
     ranges();

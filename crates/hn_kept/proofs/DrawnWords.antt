@@ -1,5 +1,5 @@
 -- Words of a generator, but that a word may be that of the place of a preferred prefix.
-use Rattle.hn_base.proofs.Names.{◌≡◌, ℕ, zero, suc, List, [], ◌∷◌, set, sym, subst, arith, inl, inr, ◌⊎◌, Begins}
+use Rattle.hn_base.proofs.Names.{◌≡◌, ℕ, zero, suc, List, [], ◌∷◌, ◌++◌, length, sym, subst, arith, inl, inr, ◌⊎◌, Begins}
 use Rattle.hn_base.proofs.AscendingLists.{nothing_in}
 use Rattle.rand_chacha.specs.ChaCha.{ChaCha, next_word}
 use Rattle.hn_kept.specs.declared.preferred.Preferred.{Preferred}
@@ -21,12 +21,12 @@ drawn_first preferred (x ∷ xs) g (w ∷ ws) drawn begins =
       drawn_first preferred xs ((next_word 10 g).1) ws drawn.1 (λ i within. begins (suc i) (omega (arith, within))),
     )
 
--- with the word of a preferred place in the stead of one they are such
-pub drawn_with : (preferred : List Preferred) (g : ChaCha) (words : List ℕ) (place w : ℕ) → IsOfPlace preferred w → AreDrawn preferred g words → AreDrawn preferred g (set words place w)
-unfolding AreDrawn
-drawn_with preferred g [] place w of drawn = tt
-drawn_with preferred g (x ∷ xs) zero w of drawn = (inr of, drawn.1)
-drawn_with preferred g (x ∷ xs) (suc place) w of drawn = (drawn.0, drawn_with preferred ((next_word 10 g).1) xs place w of drawn.1)
+-- with one more of the generator's, or of a preferred place, they are such
+pub drawn_more : (preferred : List Preferred) (g : ChaCha) (words : List ℕ) (w : ℕ) → AreDrawn preferred g words → (w ≡ chacha_word g (length words)) ⊎ IsOfPlace preferred w
+    → AreDrawn preferred g (words ++ w ∷ [])
+unfolding AreDrawn chacha_word chacha_after
+drawn_more preferred g [] w drawn of = (of, tt)
+drawn_more preferred g (x ∷ xs) w drawn of = (drawn.0, drawn_more preferred ((next_word 10 g).1) xs w drawn.1 of)
 
 -- with nothing preferred they are the generator's
 pub drawn_of_none : (g : ChaCha) (words : List ℕ) → AreDrawn [] g words → Begins words (chacha_word g)

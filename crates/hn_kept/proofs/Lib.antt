@@ -12,7 +12,9 @@ pub mod HeldInTick
 pub mod StepsOfPairs
 pub mod PairTurns
 pub mod ThroughTurns
-pub mod KeptCounts
+pub mod KeptPairs
+pub mod InOrder
 pub mod TurnOutcomes
+pub mod SameAfter
 pub mod FreePublished
 pub mod NewPreferred

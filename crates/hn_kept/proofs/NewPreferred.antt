@@ -26,10 +26,12 @@ use Rattle.hn_rules.specs.Rules.{begun_at, words_taken}
 use Rattle.hn_rules.specs.Tick.{forgetting}
 use Rattle.hn_rules.specs.Ticks.{IsLosing, IsTick}
 use Rattle.hn_kept.specs.declared.preferred.Preferred.{Preferred}
-use Rattle.hn_kept.specs.Anew.{preferred_pair, view_after, IsMadeAnew}
+use Rattle.hn_kept.specs.Anew.{view_after, IsMadeAnew}
 use Rattle.hn_kept.specs.Laws.{NewIsPreferred, published_at}
+use Rattle.hn_kept.specs.Preferred.{preferred_pair}
 use Rattle.hn_kept.proofs.HeldInTick.{losing_holds, refresh_holds, ports_hold, refresh_takes, ports_take}
 use Rattle.hn_kept.proofs.StepsOfPairs.{steps_split, steps_take, others_stay}
+use Rattle.hn_kept.proofs.ThroughTurns.{in_turn}
 use Rattle.hn_kept.proofs.TurnOutcomes.{back_ascends, marked_parts, tick_happened}
 use Rattle.hn_kept.proofs.FreePublished.{FreeLaws, only_one, is_published}
 
@@ -66,9 +68,6 @@ new_line at None before words after c priority none some published (inr (inr (in
 
 regrouped : (lost before taken behind more : List ℕ) → lost ++ (((before ++ taken) ++ behind) ++ more) ≡ (lost ++ before) ++ (taken ++ (behind ++ more))
 regrouped lost before taken behind more = simp append_assoc
-
-in_turn : (lost ran more after : List ℕ) → ((lost ++ ran) ++ more) ++ after ≡ lost ++ (ran ++ (more ++ after))
-in_turn lost ran more after = simp append_assoc
 
 -- a list around an element
 around : {X : Type 0} (xs : List X) (x : X) → Contains xs x → (front : List X) × (back : List X) × (xs ≡ front ++ x ∷ back)
@@ -205,5 +204,5 @@ new_is_preferred laws wished now before after f c priority tick none there of_pa
     subst (λ (ws : List ℕ). IsMadeAnew now before.router ws f) (sym to.words_are)
     (in_tick laws.turns.total now before.router f c priority none of_pair published wished to.end to.ticked in_end) in (
       anew,
-      λ of free costs. only_one laws now before after f tick anew c (published_at now f) there (is_published laws now before after f tick anew of free costs) of_pair,
+      λ of free. only_one laws now before after f tick c (published_at now f) there (is_published laws now before after f tick anew of free) of_pair,
     )

@@ -1,6 +1,7 @@
 -- Streams of words, word by word: those of a generator, and those that begin with listed words.
 use Rattle.std.specs.Prelude.{◌≡◌, zero, suc, Some}
-use Rattle.hn_base.proofs.Names.{ℕ, ◌+◌, List, [], ◌∷◌, ◌++◌, length, refl, sym, ap, ◌∙◌, arith, zero-add, Option, Begins, IsAt, Took, length-append, same_Some}
+use Rattle.hn_base.proofs.Names.{ℕ, ◌+◌, ◌<◌, ◌≤◌, List, [], ◌∷◌, ◌++◌, length, take, get_or, refl, sym, ap, subst, ◌∙◌, inl, inr, arith, zero-add, Option, Begins, IsAt, Took, length-append, same_Some}
+use Rattle.hn_base.proofs.Names.{cases_lt, length-take-le, get_or-take, get_or_append_left, get_or-append_seam, same_number_lists}
 use Rattle.hn_base.proofs.FirstWords.{begins_both}
 use Rattle.rand_chacha.specs.ChaCha.{ChaCha, next_word}
 use Rattle.hn_kept.specs.Words.{chacha_after, chacha_word, listed_word}
@@ -59,6 +60,47 @@ unfolding listed_word
 begins_listed [] g i within = absurd (omega (arith, within))
 begins_listed (w ∷ ws) g zero within = refl
 begins_listed (w ∷ ws) g (suc i) within = begins_listed ws ((next_word 10 g).1) i (omega (arith, within))
+
+-- behind the listed words come the generator's own
+pub own_behind : (ls : List ℕ) (g : ChaCha) (i : ℕ) → length ls ≤ i → listed_word ls g i ≡ chacha_word g i
+unfolding listed_word chacha_word chacha_after
+own_behind [] g i past = refl
+own_behind (w ∷ ws) g zero past = absurd (omega (arith, past))
+own_behind (w ∷ ws) g (suc i) past = own_behind ws ((next_word 10 g).1) i (omega (arith, past))
+
+-- the first words of such a stream may be listed in the stead of fewer
+pub more_listed : (ls words : List ℕ) (g : ChaCha) (n : ℕ) → Begins words (listed_word ls g) → length ls ≤ n → n ≤ length words → Begins words (listed_word (take n words) g)
+more_listed ls words g n begins more few i within =
+    let many : length (take n words) ≡ n = length-take-le n words few in
+    elim (cases_lt i n) [
+      | inl below ↦ sym (get_or-take n words i 0 below) ∙ begins_listed (take n words) g i (omega (arith, many, below))
+      | inr past ↦ begins i within ∙ own_behind ls g i (omega (arith, more, past)) ∙ sym (own_behind (take n words) g i (omega (arith, many, past)))
+    ]
+
+-- one word more may be
+pub one_listed : (ls words : List ℕ) (g : ChaCha) (w : ℕ) → Begins words (listed_word ls g) → length ls < length words → w ≡ get_or words (length ls) 0
+    → Begins words (listed_word (ls ++ w ∷ []) g)
+one_listed ls words g w begins more is i within =
+    let many = length-append ls (w ∷ []) in
+    elim (cases_lt i (length ls)) [
+      | inl below ↦ begins i within ∙ sym (begins_listed ls g i below) ∙ sym (get_or_append_left ls (w ∷ []) 0 i below) ∙ begins_listed (ls ++ w ∷ []) g i (omega (arith, many, below))
+      | inr past ↦ elim (cases_lt (length ls) i) [
+        | inl behind ↦ begins i within ∙ own_behind ls g i past ∙ sym (own_behind (ls ++ w ∷ []) g i (omega (arith, many, behind)))
+        | inr upto ↦
+            let last : length ls ≡ i = omega (arith, past, upto) in
+            subst (λ (k : ℕ). ◌≡◌ {A = ℕ} (get_or words k 0) (listed_word (ls ++ w ∷ []) g k)) last
+            (sym is ∙ sym (get_or-append_seam ls w [] 0) ∙ begins_listed (ls ++ w ∷ []) g (length ls) (omega (arith, many)))
+      ]
+    ]
+
+-- the first words are the listed ones
+pub same_front : (ls words : List ℕ) (g : ChaCha) (n : ℕ) → Begins words (listed_word ls g) → n ≤ length ls → n ≤ length words → take n words ≡ take n ls
+same_front ls words g n begins listed few =
+    let many : length (take n words) ≡ n = length-take-le n words few in
+    let as_many : length (take n ls) ≡ n = length-take-le n ls listed in
+    same_number_lists (take n words) (take n ls) (many ∙ sym as_many) (λ k within.
+    let below : k < n = omega (arith, within, many) in
+    get_or-take n words k 0 below ∙ begins k (omega (arith, below, few)) ∙ sym (begins_listed ls g k (omega (arith, below, listed))) ∙ sym (get_or-take n ls k 0 below))
 
 -- ---- a generator that passes over words
 

@@ -1,5 +1,5 @@
 -- A tick whose words begin with those before the turn of a pair goes through that turn.
-use Rattle.hn_base.proofs.Names.{◌≡◌, ◌∙◌, ◌+◌, ℕ, List, ◌∷◌, ◌++◌, length, refl, sym, ap, subst, append_assoc, IsTotalOrder, on, on_total, Then, Begins}
+use Rattle.hn_base.proofs.Names.{◌≡◌, ◌∙◌, ◌+◌, ℕ, List, ◌∷◌, ◌++◌, length, refl, sym, ap, subst, append_assoc, IsTotalOrder, IsExact, on, on_total, Then, Begins}
 use Rattle.hn_base.proofs.AscendingLists.{ascending_unique}
 use Rattle.hn_base.proofs.FirstWords.{begins_front, begins_back, begins_along}
 use Rattle.hn_base.proofs.OneResult.{sole_both, sole_plain}
@@ -11,7 +11,7 @@ use Rattle.hn_assign.specs.declared.assigned.Assigned.{Assigned}
 use Rattle.hn_assign.specs.declared.held.Held.{Held}
 use Rattle.hn_assign.specs.declared.held.Ran.{Ran}
 use Rattle.hn_assign.specs.declared.pair.Pair.{Pair}
-use Rattle.hn_assign.specs.Laws.{StepsHaveOneResult, SameHaveOneBest}
+use Rattle.hn_assign.specs.Laws.{StepsHaveOneResult, SameHaveOneBest, SameHaveOneFirstFree}
 use Rattle.hn_assign.specs.Pair.{IsAscending, KeepsWished, assigned_pair, backoff_pair, wish_pair, pair_cmp}
 use Rattle.hn_assign.specs.Step.{IsPairStep}
 use Rattle.hn_assign.specs.Subroutine.{IsBegun, AreSteps, IsSubroutine, with_marks}
@@ -31,9 +31,11 @@ use Rattle.hn_kept.proofs.StepsOfPairs.{steps_split, steps_take, steps_ascend}
 -- the laws on which it rests
 pub record TurnLaws : Type 0 where
   pub total : IsTotalOrder pair_cmp
+  pub exact : IsExact pair_cmp
   pub usable : UsableIsUnique
   pub steps : StepsHaveOneResult
   pub best : SameHaveOneBest
+  pub first : SameHaveOneFirstFree
   pub expiry : IsSole IsExpiry
   pub refresh : IsSole IsRefresh
 
@@ -66,6 +68,9 @@ regrouped : (lost before words behind more more_after : List ℕ)
     → ((lost ++ (before ++ (words ++ behind))) ++ more) ++ more_after ≡ (lost ++ before) ++ (words ++ (behind ++ (more ++ more_after)))
 regrouped lost before words behind more more_after = simp append_assoc
 
+pub in_turn : (lost ran more after : List ℕ) → ((lost ++ ran) ++ more) ++ after ≡ lost ++ (ran ++ (more ++ after))
+in_turn lost ran more after = simp append_assoc
+
 words_are : (all settled mid ran lost before words behind more more_after : List ℕ) → all ≡ settled ++ more_after
     → settled ≡ mid ++ more → mid ≡ lost ++ ran → ran ≡ before ++ (words ++ behind)
     → all ≡ (lost ++ before) ++ (words ++ (behind ++ (more ++ more_after)))
@@ -84,6 +89,7 @@ record RanThrough (now : ℕ) (s : State) (f : Preferred) (turn : IsTurnInTick n
   pub held : ran.held ≡ (with_marks now last).held
   pub rest : List ℕ
   pub took : ran.words ≡ turn.before.words ++ (words ++ rest)
+  pub took_all : ran.words ≡ last.words
 
 -- a tick did so
 pub record WentThrough (now : ℕ) (s : State) (f : Preferred) (turn : IsTurnInTick now s f) (end : Running) : Type 0 where
@@ -95,6 +101,8 @@ pub record WentThrough (now : ℕ) (s : State) (f : Preferred) (turn : IsTurnInT
   pub held : end.state.held ≡ (with_marks now last).held
   pub rest : List ℕ
   pub took : end.done.words ≡ words_before turn ++ (words ++ rest)
+  pub tail : List ℕ
+  pub took_all : end.done.words ≡ turn.lost.done.words ++ (last.words ++ tail)
 
 module _ (laws : TurnLaws) (now : ℕ) (s : State) (f : Preferred) (turn : IsTurnInTick now s f) where
   -- where it assigns
@@ -141,6 +149,7 @@ module _ (laws : TurnLaws) (now : ℕ) (s : State) (f : Preferred) (turn : IsTur
             held = ap (λ (r : Ran). r.held) marks ∙ ap (λ (m : ℕ). (with_marks m last).held) moment_is;
             rest = behind;
             took = ap (λ (r : Ran). r.words) marks ∙ at_last ∙ ap (λ (ws : List ℕ). ws ++ behind) step.took ∙ append_assoc turn.before.words words behind;
+            took_all = ap (λ (r : Ran). r.words) marks;
           }
 
       of_steps : (last : Ran) → AreSteps (view_after turn.lost) (turn.earlier ++ turn.wish ∷ turn.later) turn.begun last → ran ≡ with_marks turn.lost.state.moment last → RanThrough now s f turn ran
@@ -166,6 +175,9 @@ module _ (laws : TurnLaws) (now : ℕ) (s : State) (f : Preferred) (turn : IsTur
     held = held ∙ run.held;
     rest = run.rest ++ (more ++ more_after);
     took = words_are end.done.words settled.done.words mid.done.words ran.words turn.lost.done.words turn.before.words run.words run.rest more more_after after settling of_lost run.took;
+    tail = more ++ more_after;
+    took_all = after ∙ ap (λ (ws : List ℕ). ws ++ more_after) (settling ∙ ap (λ (ws : List ℕ). ws ++ more) (of_lost ∙ ap (λ (ws : List ℕ). turn.lost.done.words ++ ws) run.took_all))
+        ∙ in_turn turn.lost.done.words run.last.words more more_after;
   }
 
   pub through : (end : Running) (stream : ℕ → ℕ) → IsTick (begun_at now s) end → Begins end.done.words stream → Begins (words_before turn) stream → WentThrough now s f turn end

@@ -1,8 +1,9 @@
 -- What a tick that goes through the turn of a pair leaves for it, where an assignment is made anew there, and for the pairs before it.
-use Rattle.hn_base.proofs.Names.{◌≡◌, ◌∙◌, ◌↔◌, ℕ, ◌-◌, List, [], ◌∷◌, ◌++◌, length, map, Contains, Some, Bool, true, false, set, refl, sym, ap, subst, arith, inl, inr, on, Begins}
-use Rattle.hn_base.proofs.Names.{get_or-append_seam, sorted_tail, nat_le, if◌then◌else◌, Less, PlainPrefix, length-append, false≢true}
+use Rattle.hn_base.proofs.Names.{◌≡◌, ◌∙◌, ◌↔◌, ℕ, ◌-◌, List, [], ◌∷◌, ◌++◌, length, map, Contains, Some, None, Bool, true, false, refl, sym, ap, subst, arith, inl, inr, on, Begins}
+use Rattle.hn_base.proofs.Names.{get_or-append_seam, sorted_tail, nat_le, if◌then◌else◌, Less, PlainPrefix, HaveSame, length-append, false≢true}
 use Rattle.hn_base.proofs.AscendingLists.{Contains-cases, Contains-map, Contains-from_map, below_head, not_below_itself}
 use Rattle.hn_base.proofs.FirstWords.{begins_along}
+use Rattle.hn_base.proofs.FrontOfList.{head_is}
 use Rattle.hn_prefix.specs.Laws.{PlaceIsFirst, InsideAreSubPrefixes}
 use Rattle.hn_assign.specs.declared.assigned.Assigned.{Assigned}
 use Rattle.hn_assign.specs.declared.assigned.Wish.{Wish}
@@ -11,7 +12,7 @@ use Rattle.hn_assign.specs.declared.pair.Pair.{Pair}
 use Rattle.hn_assign.specs.declared.slot.Slot.{Slot}
 use Rattle.hn_assign.specs.Marks.{marked_applied}
 use Rattle.hn_assign.specs.Pair.{IsAscending, assigned_pair, wish_pair, pair_cmp}
-use Rattle.hn_assign.specs.Scene.{scene_of, IsFreeFor, new_assigned}
+use Rattle.hn_assign.specs.Scene.{scene_of, IsFreeFor, IsFirstFreeFor, new_assigned}
 use Rattle.hn_assign.specs.Unassigned.{IsMade}
 use Rattle.hn_rules.specs.declared.done.Done.{Done}
 use Rattle.hn_rules.specs.declared.running.Running.{Running}
@@ -19,16 +20,13 @@ use Rattle.hn_rules.specs.declared.state.State.{State}
 use Rattle.hn_rules.specs.Rules.{begun_at}
 use Rattle.hn_rules.specs.Ticks.{IsTick}
 use Rattle.hn_router.specs.Act.{Tick, Happened, IsEvent}
-use Rattle.rand_chacha.specs.ChaCha.{ChaCha}
 use Rattle.hn_kept.specs.declared.preferred.Preferred.{Preferred}
-use Rattle.hn_kept.specs.Anew.{preferred_pair, IsTurnInTick, view_after, words_before, IsMadeAnew, scene_in, place_in}
+use Rattle.hn_kept.specs.Anew.{IsTurnInTick, view_after, words_before, IsMadeAnew, scene_in}
 use Rattle.hn_kept.specs.Laws.{IsOfScene}
-use Rattle.hn_kept.specs.Preferred.{word_of}
-use Rattle.hn_kept.specs.Words.{listed_word}
+use Rattle.hn_kept.specs.Preferred.{preferred_pair, word_of}
 use Rattle.hn_kept.proofs.PairTurns.{IsMadeAgain, made_again, made_there, same_advertised, free_by_same}
 use Rattle.hn_kept.proofs.PlaceOfPrefix.{place_is_published}
 use Rattle.hn_kept.proofs.StepsOfPairs.{others_stay}
-use Rattle.hn_kept.proofs.Stream.{begins_listed}
 use Rattle.hn_kept.proofs.ThroughTurns.{TurnLaws, WentThrough, through, lists_ascend, moment_is}
 
 -- ---- a tick that happened
@@ -57,16 +55,6 @@ tick_happened now s next done (end, event, (due, is_due, next_is), done_is) = re
 
 pub word_at : (xs : List ℕ) (w : ℕ) (ys : List ℕ) (stream : ℕ → ℕ) → Begins (xs ++ w ∷ ys) stream → w ≡ stream (length xs)
 word_at xs w ys stream begins = sym (get_or-append_seam xs w ys 0) ∙ begins (length xs) (omega (arith, length-append xs (w ∷ ys)))
-
-replaced : (xs : List ℕ) (w v : ℕ) (ys : List ℕ) → set (xs ++ w ∷ ys) (length xs) v ≡ xs ++ v ∷ ys
-replaced [] w v ys = refl
-replaced (x ∷ xs) w v ys = ap (λ (zs : List ℕ). x ∷ zs) (replaced xs w v ys)
-
--- with another word at a place the words before it are the same
-pub begins_replaced : (all xs : List ℕ) (w v : ℕ) (ys : List ℕ) (g : ChaCha) → all ≡ xs ++ w ∷ ys → Begins (xs ++ v ∷ ys) (listed_word (set all (length xs) v) g)
-begins_replaced all xs w v ys g is =
-    let same : set all (length xs) v ≡ xs ++ v ∷ ys = ap (λ (zs : List ℕ). set zs (length xs) v) is ∙ replaced xs w v ys in
-    subst (λ (zs : List ℕ). Begins (xs ++ v ∷ ys) (listed_word zs g)) (sym same) (begins_listed (xs ++ v ∷ ys) g)
 
 -- ---- pairs in order
 
@@ -133,7 +121,7 @@ module _ (laws : TurnLaws) (now : ℕ) (s : State) (f : Preferred) (turn : IsTur
 
 module _ (laws : TurnLaws) (now : ℕ) (s : State) (words : List ℕ) (f : Preferred) (anew : IsMadeAnew now s words f) where
   -- a run that goes through the turn makes an assignment there
-  again_in : (end : Running) (went : WentThrough now s f anew.turn end)
+  pub again_in : (end : Running) (went : WentThrough now s f anew.turn end)
       → IsMadeAgain laws.best laws.total (view_after anew.turn.lost) anew.turn.wish anew.turn.before anew.after went.next
       (lists_ascend laws now s f anew.turn).0 (lists_ascend laws now s f anew.turn).1 anew.word went.words anew.step went.step
   again_in end went =
@@ -141,7 +129,7 @@ module _ (laws : TurnLaws) (now : ℕ) (s : State) (words : List ℕ) (f : Prefe
       (lists_ascend laws now s f anew.turn).0 (lists_ascend laws now s f anew.turn).1 anew.word went.words anew.step went.step anew.made
 
   -- it is of the pair, from this moment on
-  is_given : (end : Running) (went : WentThrough now s f anew.turn end) (p : PlainPrefix)
+  pub is_given : (end : Running) (went : WentThrough now s f anew.turn end) (p : PlainPrefix)
       → new_assigned (scene_of (view_after anew.turn.lost) anew.turn.wish went.step.advertised) p (Some 2) ≡ given now f p
   is_given end went p =
       let moment : anew.turn.lost.state.moment ≡ now = moment_is laws now s f anew.turn in
@@ -155,21 +143,53 @@ module _ (laws : TurnLaws) (now : ℕ) (s : State) (words : List ℕ) (f : Prefe
       let again = again_in end went in
       (again.made.prefix, given_stays laws now s f anew.turn end went again.made.prefix (ap (λ (slot : Slot). slot.assigned) again.made.gives ∙ ap Some (is_given end went again.made.prefix)))
 
+  -- the word that a run takes there
+  pub word_in : (end : Running) (went : WentThrough now s f anew.turn end) (stream : ℕ → ℕ) → Begins end.done.words stream → (again_in end went).taken ≡ stream (length (words_before anew.turn))
+  word_in end went stream begins =
+      let again = again_in end went in
+      let all : end.done.words ≡ words_before anew.turn ++ again.taken ∷ went.rest = went.took ∙ ap (λ (ws : List ℕ). words_before anew.turn ++ (ws ++ went.rest)) again.takes in
+      word_at (words_before anew.turn) again.taken went.rest stream (begins_along end.done.words (words_before anew.turn ++ again.taken ∷ went.rest) stream all begins)
+
+  -- by the same prefixes in each run
+  advertised_in : (end : Running) (went : WentThrough now s f anew.turn end) → HaveSame anew.step.advertised went.step.advertised
+  advertised_in end went =
+      same_advertised laws.best laws.total (view_after anew.turn.lost) anew.turn.wish anew.turn.before anew.after went.next
+      (lists_ascend laws now s f anew.turn).0 (lists_ascend laws now s f anew.turn).1 anew.word went.words anew.step went.step
+
+  -- with one word the pair gets one prefix
+  pub same_gets : (a b : Running) (p : WentThrough now s f anew.turn a) (q : WentThrough now s f anew.turn b) → (again_in a p).taken ≡ (again_in b q).taken → (gets a p).0 ≡ (gets b q).0
+  unfolding gets again_in
+  same_gets a b p q same =
+      let one = again_in a p in
+      let two = again_in b q in
+      let word : one.made.word ≡ two.made.word = sym (head_is one.made.took) ∙ same ∙ head_is two.made.took in
+      let also : HaveSame p.step.advertised q.step.advertised = λ x.
+      let h = advertised_in a p x in
+      let k = advertised_in b q x in
+      (λ there. k.0 (h.1 there), λ there. h.0 (k.1 there)) in
+      laws.first p.step.advertised q.step.advertised also anew.turn.wish.delegated two.made.word anew.turn.wish.length one.made.prefix two.made.prefix
+      (subst (λ (w : ℕ). IsFirstFreeFor (scene_of (view_after anew.turn.lost) anew.turn.wish p.step.advertised) w one.made.prefix) word one.made.first) two.made.first
+
+  -- where it gets one prefix, its turn leaves the same
+  pub same_new : (a b : Running) (p : WentThrough now s f anew.turn a) (q : WentThrough now s f anew.turn b) → (gets a p).0 ≡ (gets b q).0 → p.step.new ≡ q.step.new
+  unfolding gets again_in
+  same_new a b p q same =
+      let one = again_in a p in
+      let two = again_in b q in
+      let make : Assigned → Slot = λ c. record { assigned = Some c; backoff = None } in
+      one.made.gives ∙ ap make (is_given a p one.made.prefix ∙ ap (given now f) same ∙ sym (is_given b q two.made.prefix)) ∙ sym two.made.gives
+
   -- over a stream with the word of its place it has the preferred prefix, if that is free
   pub gets_preferred : PlaceIsFirst → InsideAreSubPrefixes → IsOfScene (scene_in anew) f → IsFreeFor (scene_in anew) f.prefix
-      → (end : Running) (stream : ℕ → ℕ) (went : WentThrough now s f anew.turn end) → Begins end.done.words stream → stream (place_in anew) ≡ word_of f
+      → (end : Running) (stream : ℕ → ℕ) (went : WentThrough now s f anew.turn end) → Begins end.done.words stream → stream (length (words_before anew.turn)) ≡ word_of f
       → Contains end.state.held.assigned (given now f f.prefix)
   gets_preferred first inside of free end stream went begins at_place =
       let again = again_in end went in
       let view = view_after anew.turn.lost in
       let wish = anew.turn.wish in
       let scene = scene_of view wish went.step.advertised in
-      let all : end.done.words ≡ words_before anew.turn ++ again.taken ∷ went.rest = went.took ∙ ap (λ (ws : List ℕ). words_before anew.turn ++ (ws ++ went.rest)) again.takes in
-      let word : again.taken ≡ word_of f =
-      word_at (words_before anew.turn) again.taken went.rest stream (begins_along end.done.words (words_before anew.turn ++ again.taken ∷ went.rest) stream all begins) ∙ at_place in
-      let same = same_advertised laws.best laws.total view wish anew.turn.before anew.after went.next
-      (lists_ascend laws now s f anew.turn).0 (lists_ascend laws now s f anew.turn).1 anew.word went.words anew.step went.step in
-      let free_there : IsFreeFor scene f.prefix = free_by_same anew.step.advertised went.step.advertised view wish f.prefix same free in
+      let word : again.taken ≡ word_of f = word_in end went stream begins ∙ at_place in
+      let free_there : IsFreeFor scene f.prefix = free_by_same anew.step.advertised went.step.advertised view wish f.prefix (advertised_in end went) free in
       let of_there : IsOfScene scene f = record {
         delegated = of.delegated;
         length = of.length;

@@ -1,11 +1,10 @@
 -- Where a tick makes the assignment of a preferred pair anew.
-use Rattle.std.specs.Prelude.{◌≡◌, ℕ, List, [], ◌∷◌, ◌++◌, length}
+use Rattle.std.specs.Prelude.{◌≡◌, ℕ, List, [], ◌∷◌, ◌++◌}
 use Rattle.hn_data.specs.View.{PlainView}
 use Rattle.hn_deleg.specs.declared.delegated.Delegated.{Delegated}
 use Rattle.hn_deleg.specs.Used.{AreUsable}
 use Rattle.hn_assign.specs.declared.assigned.Wish.{Wish}
 use Rattle.hn_assign.specs.declared.held.Ran.{Ran}
-use Rattle.hn_assign.specs.declared.pair.Pair.{Pair}
 use Rattle.hn_assign.specs.Pair.{wish_pair}
 use Rattle.hn_assign.specs.Scene.{PlainScene, scene_of}
 use Rattle.hn_assign.specs.Step.{IsPairStep}
@@ -19,10 +18,7 @@ use Rattle.hn_rules.specs.Seen.{seen_by}
 use Rattle.hn_rules.specs.Tick.{forgetting}
 use Rattle.hn_rules.specs.Ticks.{IsLosing}
 use Rattle.hn_kept.specs.declared.preferred.Preferred.{Preferred}
-
--- the pair for which a prefix is preferred
-abbrev pub preferred_pair : Preferred → Pair
-preferred_pair f = record { delegated = f.delegated; endpoint = f.endpoint }
+use Rattle.hn_kept.specs.Preferred.{preferred_pair}
 
 -- what a router sees where it assigns prefixes in a tick, after what was lost
 abbrev pub view_after : Running → PlainView
@@ -59,9 +55,6 @@ pub record IsMadeAnew (now : ℕ) (s : State) (words : List ℕ) (f : Preferred)
   pub rest : List ℕ
   pub took : words ≡ words_before turn ++ word ∷ rest
 
--- what the pair is judged by in its turn, and the place of its word
+-- what the pair is judged by in its turn
 abbrev pub scene_in : {now : ℕ} {s : State} {words : List ℕ} {f : Preferred} → IsMadeAnew now s words f → PlainScene
 scene_in anew = scene_of (view_after anew.turn.lost) anew.turn.wish anew.step.advertised
-
-abbrev pub place_in : {now : ℕ} {s : State} {words : List ℕ} {f : Preferred} → IsMadeAnew now s words f → ℕ
-place_in anew = length (words_before anew.turn)

@@ -5,6 +5,7 @@ use Rattle.hn_base.specs.declared.ids.EpId.{EpId}
 use Rattle.hn_base.specs.declared.ids.NodeId.{NodeId}
 use Rattle.hn_advert.specs.declared.advert.Advert.{Advert}
 use Rattle.hn_advert.specs.Advert.{advert_bytes}
+use Rattle.hn_assign.specs.Pair.{IsAscending}
 use Rattle.hn_departed.specs.declared.departures.Told.{Told}
 use Rattle.hn_departed.specs.Departed.{with_departed, told_after, told_at, with_told}
 use Rattle.hn_rules.specs.declared.state.State.{State}
@@ -14,6 +15,7 @@ use Rattle.hn_router.specs.Act.{PlainEvent, Tick, Happened}
 use Rattle.hn_router.specs.New.{IsNew}
 use Rattle.hn_router.specs.Advertising.{IsAdvertAt}
 use Rattle.hn_kept.specs.declared.preferred.Preferred.{Preferred}
+use Rattle.hn_kept.specs.Preferred.{preferred_pair}
 use Rattle.hn_kept.specs.Words.{chacha_after, AreDrawn}
 use Rattle.hn_kept.specs.Choosing.{PlainAsked, AreBest}
 
@@ -38,13 +40,14 @@ abbrev pub asked_of : ℕ → PlainEvent → Kept → PlainAsked
 asked_of now event k = record { moment = now; event = event; router = k.router; words = k.words; preferred = k.preferred }
 
 -- An event happened at a moment, and what it came to is kept. It took the generator's next words, but that a word may be that
--- of the place of a preferred prefix. In a tick this serves as many preferred pairs as it can: no other word of a place would
--- serve more. What was advertised and what is preferred stay.
+-- of the place of a preferred prefix. In a tick each is the best behind those before it. What was advertised and what is preferred
+-- stay; that is in the order of pairs, one prefix for a pair.
 pub record Acts (now : ℕ) (event : PlainEvent) (before after : Kept) : Type 0 where
   pub happened : Happened now event before.router after.router after.done
   pub drew : AreDrawn before.preferred before.words after.done.words
   pub words : after.words ≡ chacha_after (length after.done.words) before.words
-  pub best : event ≡ Tick → AreBest (asked_of now event before) after.done.words after.router
+  pub ascends : IsAscending preferred_pair before.preferred
+  pub best : event ≡ Tick → AreBest (asked_of now event before) after.done.words
   pub told : after.told ≡ before.told
   pub preferred : after.preferred ≡ before.preferred
 

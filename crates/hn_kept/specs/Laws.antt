@@ -1,24 +1,20 @@
 -- Laws of preferred prefixes.
-use Rattle.std.specs.Prelude.{◌≡◌, ℕ, ◌≤◌, ◌⊎◌, true, false, List, [], ◌∷◌, None, Some, set, Contains}
-use Rattle.std.specs.declared.cmp.Ordering.TheVariants.{Less}
+use Rattle.std.specs.Prelude.{◌≡◌, ℕ, ◌≤◌, false, [], ◌∷◌, None, Some, Contains}
 use Rattle.hn_base.specs.Ascending.{HasAt}
-use Rattle.hn_base.specs.Words.{Begins, Took}
+use Rattle.hn_base.specs.Words.{Took}
 use Rattle.hn_base.specs.Prefix.{IsPrefix, IsWithin}
-use Rattle.hn_rules.specs.declared.done.Done.{Done}
-use Rattle.hn_rules.specs.declared.state.State.{State}
 use Rattle.hn_rules.specs.Router.{IsRouter}
-use Rattle.hn_router.specs.Act.{PlainEvent, Tick, Happened}
+use Rattle.hn_router.specs.Act.{PlainEvent, Tick}
 use Rattle.hn_assign.specs.declared.assigned.Assigned.{Assigned}
 use Rattle.hn_assign.specs.declared.slot.Slot.{Slot}
-use Rattle.hn_assign.specs.Pair.{assigned_pair, pair_cmp}
+use Rattle.hn_assign.specs.Pair.{assigned_pair}
 use Rattle.hn_assign.specs.Scene.{PlainScene, IsFreeFor, new_assigned}
 use Rattle.hn_assign.specs.Unassigned.{IsMade}
 use Rattle.hn_kept.specs.declared.preferred.Preferred.{Preferred}
-use Rattle.hn_kept.specs.Anew.{preferred_pair, IsMadeAnew, scene_in, place_in}
-use Rattle.hn_kept.specs.Choosing.{AreFewToTry}
-use Rattle.hn_kept.specs.Preferred.{word_of, is_kept}
-use Rattle.hn_kept.specs.Words.{chacha_word, listed_word}
-use Rattle.hn_kept.specs.Kept.{Kept, Acts, asked_of}
+use Rattle.hn_kept.specs.Anew.{IsMadeAnew, scene_in}
+use Rattle.hn_kept.specs.Preferred.{preferred_pair, word_of}
+use Rattle.hn_kept.specs.Words.{chacha_word}
+use Rattle.hn_kept.specs.Kept.{Kept, Acts}
 
 -- With nothing preferred an event takes the generator's next words, and those after them come next.
 abbrev pub NothingPreferred : Type 0
@@ -47,28 +43,12 @@ PlaceIsPublished =
 
 -- ---- what is free is published
 
--- A tick of a router with preferred prefixes happens, and makes the assignment of a preferred pair anew. Few words are to be
--- tried.
+-- a tick of a router happens, with a preferred prefix
 pub record IsTickOf (now : ℕ) (before after : Kept) (f : Preferred) : Type 0 where
   pub router : IsRouter before.router
   pub not_before : before.router.moment ≤ now
   pub acts : Acts now Tick before after
   pub preferred : Contains before.preferred f
-  pub few : AreFewToTry (asked_of now Tick before) after.done.words after.router
-
--- With the word of its place in the stead of the one that the pair took, each preferred pair that has its prefix has it too.
-abbrev pub CostsNone : ℕ → Kept → Kept → ℕ → Preferred → Type 0
-CostsNone now before after place f =
-    (other : State) (done : Done) → Happened now Tick before.router other done
-    → Begins done.words (listed_word (set after.done.words place (word_of f)) before.words)
-    → (g : Preferred) → Contains before.preferred g
-    → is_kept after.router.held.assigned g ≡ true → is_kept other.held.assigned g ≡ true
-
--- with these assignments each other preferred pair that has its prefix comes before this one, in the order of pairs
-abbrev pub IsLastKept : List Assigned → List Preferred → Preferred → Type 0
-IsLastKept assigned preferred f =
-    (g : Preferred) → Contains preferred g → is_kept assigned g ≡ true
-    → (g ≡ f) ⊎ (pair_cmp (preferred_pair g) (preferred_pair f) ≡ Less)
 
 -- from this moment on the pair has its preferred prefix, which is published with priority 2
 abbrev pub published_at : ℕ → Preferred → Assigned
@@ -83,29 +63,19 @@ published_at now f =
     }
 
 -- Where a tick makes the assignment of a preferred pair anew, and the preferred prefix is free in the turn of the pair, the pair
--- has it afterwards and publishes it, if that costs no other preferred pair its prefix.
+-- has it afterwards and publishes it.
 abbrev pub FreeIsPublished : Type 0
 FreeIsPublished =
     (now : ℕ) (before after : Kept) (f : Preferred) → IsTickOf now before after f
     → (anew : IsMadeAnew now before.router after.done.words f) → IsOfScene (scene_in anew) f → IsFreeFor (scene_in anew) f.prefix
-    → CostsNone now before after (place_in anew) f
-    → Contains after.router.held.assigned (published_at now f)
-
--- It costs none where no later preferred pair has its prefix after the tick.
-abbrev pub LastIsPublished : Type 0
-LastIsPublished =
-    (now : ℕ) (before after : Kept) (f : Preferred) → IsTickOf now before after f
-    → (anew : IsMadeAnew now before.router after.done.words f) → IsOfScene (scene_in anew) f → IsFreeFor (scene_in anew) f.prefix
-    → IsLastKept after.router.held.assigned before.preferred f
     → Contains after.router.held.assigned (published_at now f)
 
 -- Where a pair has no assignment before a tick, and publishes one after it, the tick made it anew; so it is the preferred prefix
--- if that was free in the turn of the pair, and costs no other preferred pair its prefix.
+-- if that was free in the turn of the pair.
 abbrev pub NewIsPreferred : Type 0
 NewIsPreferred =
     (now : ℕ) (before after : Kept) (f : Preferred) (c : Assigned) (priority : ℕ) → IsTickOf now before after f
     → HasAt assigned_pair (preferred_pair f) None before.router.held.assigned
     → Contains after.router.held.assigned c → assigned_pair c ≡ preferred_pair f → c.published ≡ Some priority
     → (anew : IsMadeAnew now before.router after.done.words f)
-    × (IsOfScene (scene_in anew) f → IsFreeFor (scene_in anew) f.prefix → CostsNone now before after (place_in anew) f
-    → c ≡ published_at now f)
+    × (IsOfScene (scene_in anew) f → IsFreeFor (scene_in anew) f.prefix → c ≡ published_at now f)

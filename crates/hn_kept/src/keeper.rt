@@ -1,14 +1,15 @@
 ghost use Rattle.std.specs.Prelude.{◌≡◌, ◌≢◌, ◌≤◌, ◌^◌, ◌+◌, [], length, nat_lt, true, false, OnOk, OnErr, IfOk};
+ghost use Rattle.hn_assign.specs.Pair.{IsAscending};
 ghost use Rattle.hn_router.specs.Act.{plain_event, Tick};
 ghost use Rattle.hn_departed.specs.Departed.{told_at, told_but, with_earlier};
 ghost use Rattle.hn_kept.specs.Chosen.{ula_event, address_event, MakesUla, ChoosesAddresses};
 ghost use Rattle.hn_kept.specs.Choosing.{AreChosen};
 ghost use Rattle.hn_kept.specs.Kept.{Acts, IsNewKept, IsNextAdvert, asked_of, room_beside};
-ghost use Rattle.hn_kept.specs.Preferred.{without_pair, with_preferred};
+ghost use Rattle.hn_kept.specs.Preferred.{preferred_pair, without_pair, with_preferred};
 ghost use Rattle.hn_kept.specs.Words.{AreDrawn};
 
 use crate::choosing::Asked;
-use crate::preferred::{Preferred, without_pair};
+use crate::preferred::{Preferences, Preferred, without_pair};
 use crate::words::{ChaChaWords, ListedWords};
 use hn_addr::{Choice, choose};
 use hn_advert::{Advert, bytes};
@@ -85,7 +86,7 @@ pub struct Keeper {
     done: Done,
     departures: Departures,
     words: ChaChaWords,
-    preferred: Vec<Preferred>,
+    preferred: Preferences,
 }
 
 impl Model for Keeper {
@@ -93,7 +94,7 @@ impl Model for Keeper {
 
     ghost Value = { Kept };
 
-    ghost view = { λ k. record { router = k.router; done = k.done; told = k.departures; words = k.words; preferred = k.preferred.items } };
+    ghost view = { λ k. record { router = k.router; done = k.done; told = k.departures; words = k.words; preferred = k.preferred } };
 
     ghost use Rattle.std.specs.Prelude.{◌≤◌, ◌^◌};
 
@@ -116,7 +117,7 @@ impl Keeper {
             done: Done::new(alloc),
             departures: Departures::new(alloc),
             words: ChaChaWords::new(seed),
-            preferred: Vec::new(alloc),
+            preferred: Preferences::new(alloc),
         })
     }
 
@@ -124,9 +125,11 @@ impl Keeper {
     /// Nothing forgets it.
     ///
     /// Where a tick makes the assignment of the pair anew, and this prefix is free when the turn of the pair comes, the pair has
-    /// it afterwards and publishes it, if that costs no other preferred pair its prefix. Only pairs that come later in the order
-    /// of pairs can lose theirs. It says so of a tick with few words to try: as many as it takes, for each preferred pair that
-    /// has another prefix anew, and 1,024 at most. (Laws `free_is_published` and `new_is_preferred`.)
+    /// it afterwards and publishes it. (Laws `free_is_published` and `new_is_preferred`.) A pair that comes later in the order of
+    /// pairs can lose its prefix by that.
+    ///
+    /// A tick is planned once before it happens, if something is preferred. Where preferred pairs would get other prefixes anew,
+    /// it is planned at most once more for each of them at each random word that it takes.
     ///
     /// # Errors
     ///
@@ -137,11 +140,11 @@ impl Keeper {
         ensures full { IfOk result (λ set. set ≡ false → self.new ≡ self.old) }
         ensures err { OnErr result (self.new ≡ self.old) }
     {
-        let mut all = without_pair(alloc, preferred, self.preferred.as_slice())?;
-        if MOST_PREFERRED <= all.len() {
+        let others = without_pair(alloc, preferred, self.preferred.as_slice())?;
+        if MOST_PREFERRED <= others.len() {
             return Ok(false);
         }
-        all.push(*preferred)?;
+        let all = self.preferred.with(alloc, preferred)?;
         self.preferred = all;
         Ok(true)
     }
@@ -150,11 +153,13 @@ impl Keeper {
     fn chosen(&self, alloc: Global, event: &Event<'_>, now: Moment) -> Result<Words, NoMemory>
         requires not_before { self.now.router.moment ≤ now }
         requires in_range { now ≤ 2 ^ 48 }
+        ensures ascends { IsAscending preferred_pair self.now.preferred }
         ensures drawn { IfOk result (AreDrawn self.now.preferred self.now.words) }
         ensures chosen { IfOk result (λ words. plain_event event.now ≡ Tick → self.now.preferred ≢ []
             → AreChosen (asked_of now (plain_event event.now) self.now) words) }
     {
-        if !matches!(*event, Event::Tick) || self.preferred.is_empty() {
+        let preferred = self.preferred.as_slice();
+        if !matches!(*event, Event::Tick) || preferred.is_empty() {
             return Ok(Words::new(alloc));
         }
         let asked = Asked {
@@ -162,14 +167,15 @@ impl Keeper {
             event,
             router: &self.router,
             words: &self.words,
-            preferred: self.preferred.as_slice(),
+            preferred,
         };
-        let mut seen = Router::new(alloc, self.router.id(), now)?;
-        asked.choose(alloc, &mut seen)
+        let mut own = Router::new(alloc, self.router.id(), now)?;
+        let mut other = Router::new(alloc, self.router.id(), now)?;
+        asked.choose(alloc, &mut own, &mut other)
     }
 
     /// An event happens to the router at a moment. In a tick a preferred pair whose assignment is made anew gets its prefix, if
-    /// that is free then and costs no other preferred pair its own (`prefer`).
+    /// that is free then (`prefer`).
     ///
     /// # Errors
     ///

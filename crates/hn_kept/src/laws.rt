@@ -1,6 +1,6 @@
 //! Laws of preferred prefixes. Each is the contract of a function that does nothing: call it to know its law.
 
-ghost use Rattle.hn_kept.specs.Laws.{NothingPreferred, PlaceIsPublished, FreeIsPublished, LastIsPublished, NewIsPreferred};
+ghost use Rattle.hn_kept.specs.Laws.{NothingPreferred, PlaceIsPublished, FreeIsPublished, NewIsPreferred};
 
 use hn_assign::{
     answers_know_no_order, pairs_are_ordered, steps_have_one_result, subroutine_leaves,
@@ -25,11 +25,9 @@ pub fn place_is_published()
 }
 
 /// Where a tick makes the assignment of a preferred pair anew, and the preferred prefix is free when the turn of the pair comes,
-/// the pair has it afterwards and publishes it, if that costs no other preferred pair its prefix (`free`). It costs none where no
-/// preferred pair that comes later in the order of pairs has its prefix after the tick (`last`).
+/// the pair has it afterwards and publishes it.
 pub fn free_is_published()
-    ensures free { FreeIsPublished }
-    ensures last { LastIsPublished }
+    ensures { FreeIsPublished }
 {
     pairs_are_ordered();
     usable_is_unique();
@@ -43,7 +41,7 @@ pub fn free_is_published()
 }
 
 /// Where a pair has no assignment before a tick and publishes one after it, the tick made it anew. So it is the preferred prefix, if
-/// that was free then and costs no other preferred pair its prefix.
+/// that was free then.
 pub fn new_is_preferred()
     ensures { NewIsPreferred }
 {

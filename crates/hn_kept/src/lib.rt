@@ -2,6 +2,7 @@
 //! time.
 #![tactic(auto)]
 
+mod changes;
 mod choosing;
 mod keeper;
 mod laws;

@@ -1,11 +1,14 @@
-ghost use Rattle.std.specs.Prelude.{◌≡◌, IfOk};
-ghost use Rattle.std.specs.List.{filter};
-ghost use Rattle.hn_kept.specs.Preferred.{word_of, is_of_pair, is_kept, kept_count, is_missed, without_pair};
+ghost use Rattle.std.specs.Prelude.{◌≡◌, ◌↔◌, true, [], IsTrue, IfOk};
+ghost use Rattle.hn_assign.specs.Pair.{IsAscending};
+ghost use Rattle.hn_kept.specs.Choosing.{earlier_ones};
+ghost use Rattle.hn_kept.specs.Preferred.{preferred_pair, word_of, is_of_pair, is_kept, is_anew, is_missed, without_pair, before_pair, after_pair, with_preferred};
 
-use hn_assign::Assigned;
+use crate::changes::same_earlier;
+use hn_assign::{Assigned, Pair, pairs_are_ordered};
 use hn_base::{EpId, Moment, NoMemory};
 use hn_prefix::Prefix;
 use std::alloc::Global;
+use std::marker::Model;
 
 /// How many words there are.
 const WORDS: u128 = 4_294_967_296;
@@ -32,6 +35,16 @@ impl Preferred {
         }
     }
 
+    /// The pair. Never allocates.
+    pub(crate) fn pair(&self) -> Pair
+        ensures { result ≡ preferred_pair self.now }
+    {
+        Pair {
+            delegated: self.delegated,
+            endpoint: self.endpoint,
+        }
+    }
+
     /// Whether an assignment is of the pair.
     fn is_of_pair(&self, c: &Assigned) -> bool
         ensures { result ≡ is_of_pair self.now c.now }
@@ -48,38 +61,119 @@ impl Preferred {
             .any(|c| self.is_of_pair(c) && c.prefix == self.prefix)
     }
 
-    /// Whether the router publishes another one for the pair, from this moment on.
-    fn is_missed(&self, now: Moment, assigned: &[Assigned]) -> bool
+    /// Whether the router publishes one for the pair, from this moment on.
+    fn is_anew(&self, now: Moment, assigned: &[Assigned]) -> bool
+        ensures { result ≡ is_anew now assigned.now self.now }
+    {
+        assigned.iter().any(|c| self.is_of_pair(c) && (c.since == now && c.published.is_some()))
+    }
+
+    /// Whether it does so, and the pair does not have the one that is preferred.
+    pub(crate) fn is_missed(&self, now: Moment, assigned: &[Assigned]) -> bool
         ensures { result ≡ is_missed now assigned.now self.now }
     {
-        assigned.iter().any(|c| {
-            self.is_of_pair(c)
-                && (c.since == now && (c.published.is_some() && c.prefix != self.prefix))
-        })
+        let kept = self.is_kept(assigned);
+        !kept && self.is_anew(now, assigned)
+    }
+
+    /// Whether the pair has it with other assignments, while the pairs that come before have the same.
+    pub(crate) fn is_served(
+        &self,
+        alloc: Global,
+        own: &[Assigned],
+        other: &[Assigned],
+    ) -> Result<bool, NoMemory>
+        ensures { IfOk result (λ served. IsTrue served ↔ (is_kept other.now self.now ≡ true) × (earlier_ones (preferred_pair self.now) other.now ≡ earlier_ones (preferred_pair self.now) own.now)) }
+    {
+        if !self.is_kept(other) {
+            return Ok(false);
+        }
+        same_earlier(alloc, &self.pair(), other, own)
     }
 }
 
-/// How many pairs have their preferred prefix.
-pub(crate) fn kept_count(preferred: &[Preferred], assigned: &[Assigned]) -> usize
-    ensures { result ≡ kept_count preferred.now assigned.now }
-{
-    preferred.iter().filter(|f| f.is_kept(assigned)).count()
+/// Preferred prefixes, one for a pair, in the order of pairs. Contracts see the list.
+#[derive(Drop)]
+pub struct Preferences {
+    items: Vec<Preferred>,
 }
 
-/// The pairs for which the router publishes another prefix, from this moment on.
-pub(crate) fn missed(
+impl Model for Preferences {
+    ghost use Rattle.std.specs.Prelude.{List};
+    ghost use Rattle.hn_assign.specs.Pair.{IsAscending};
+    ghost use Rattle.hn_kept.specs.declared.preferred.Preferred.{Preferred};
+    ghost use Rattle.hn_kept.specs.Preferred.{preferred_pair};
+
+    ghost Value = { List Preferred };
+
+    ghost view = { λ p. p.items.items };
+
+    ghost invariant = { λ p. IsAscending preferred_pair p.items.items };
+}
+
+impl Preferences {
+    /// Nothing. Never allocates.
+    pub(crate) fn new(alloc: Global) -> Preferences
+        ensures { result ≡ [] }
+    {
+        Preferences {
+            items: Vec::new(alloc),
+        }
+    }
+
+    /// The list. Never allocates.
+    pub(crate) fn as_slice(&self) -> &[Preferred]
+        ensures value { result.now ≡ self.now }
+        ensures ascends { IsAscending preferred_pair self.now }
+    {
+        self.items.as_slice()
+    }
+
+    /// The list where this one is preferred in place of what was for its pair.
+    pub(crate) fn with(&self, alloc: Global, of: &Preferred) -> Result<Preferences, NoMemory>
+        ensures { IfOk result (λ all. all ≡ with_preferred of.now self.now) }
+    {
+        pairs_are_ordered();
+        let mut items = before_pair(alloc, of, self.items.as_slice())?;
+        let after = after_pair(alloc, of, self.items.as_slice())?;
+        items.push(*of)?;
+        items.extend_from_slice(after.as_slice())?;
+        Ok(Preferences { items })
+    }
+}
+
+/// What is preferred for pairs before one.
+fn before_pair(
     alloc: Global,
-    now: Moment,
+    of: &Preferred,
     preferred: &[Preferred],
-    assigned: &[Assigned],
 ) -> Result<Vec<Preferred>, NoMemory>
-    ensures { IfOk result (λ missed. missed.items ≡ filter (is_missed now assigned.now) preferred.now) }
+    ensures { IfOk result (λ before. before.items ≡ before_pair of.now preferred.now) }
 {
+    let pair = of.pair();
     Ok(
         preferred
             .iter()
             .copied()
-            .filter(|f| f.is_missed(now, assigned))
+            .filter(|p| p.pair() < pair)
+            .collect(alloc)?,
+    )
+}
+
+/// What is preferred for pairs after one.
+fn after_pair(
+    alloc: Global,
+    of: &Preferred,
+    preferred: &[Preferred],
+) -> Result<Vec<Preferred>, NoMemory>
+    ensures { IfOk result (λ after. after.items ≡ after_pair of.now preferred.now) }
+{
+    let pair = of.pair();
+    Ok(
+        preferred
+            .iter()
+            .copied()
+            .filter(|p| pair < p.pair())
             .collect(alloc)?,
     )
 }

@@ -6,9 +6,11 @@ returns c = new_is_preferred (
     record {
       turns = record {
         total = c.pairs_are_ordered.ensures.total;
+        exact = c.pairs_are_ordered.ensures.exact;
         usable = c.usable_is_unique.ensures;
         steps = c.steps_have_one_result.ensures.steps;
         best = c.answers_know_no_order.ensures.best;
+        first = c.answers_know_no_order.ensures.first;
         expiry = c.rules_have_one_result.ensures.expiry;
         refresh = c.rules_have_one_result.ensures.refresh;
       };

@@ -16,6 +16,7 @@ returns-clause-ok c =
     (c.copy.ensures ∙ words)
     (subst (λ (s : State). Happened c.args.now event s c.act.new.self c.in_ok-done.done) (ap (λ (kept : Kept). kept.router) c.self.view_is) c.in_ok-done.ensures.happened)
     c.in_ok-done.ensures.drew
+    c.chosen.ensures.ascends
     (subst (AreDrawn k.preferred k.words) (sym c.as_slice.ensures) c.in_ok-chosen.ensures.drawn)
     (subst (λ (ws : List ℕ). event ≡ Tick → k.preferred ≢ [] → AreChosen (asked_of c.args.now event k) ws) (sym c.as_slice.ensures) c.in_ok-chosen.ensures.chosen)
     (c.pass.ensures ∙ (λ i. chacha_after (c.len.ensures i) (words i)))

@@ -1,4 +1,4 @@
-use Rattle.hn_base.proofs.Names.{ℕ, List, ◌∙◌, Some, ap, subst, Took}
+use Rattle.hn_base.proofs.Names.{◌∙◌, Some, ap, subst, Took}
 use Rattle.rand_chacha.specs.ChaCha.{ChaCha}
 use Rattle.hn_rules.specs.declared.state.State.{State}
 use Rattle.hn_router.specs.Act.{PlainEvent}

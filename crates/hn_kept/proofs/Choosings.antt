@@ -19,7 +19,7 @@ use Rattle.hn_router.specs.Laws.{OneResult}
 use Rattle.hn_kept.specs.declared.preferred.Preferred.{Preferred}
 use Rattle.hn_kept.specs.Preferred.{preferred_pair, word_of, is_missed, is_kept}
 use Rattle.hn_kept.specs.Words.{chacha_word, listed_word, AreDrawn}
-use Rattle.hn_kept.specs.Choosing.{PlainAsked, EventComesTo, Leaves, earlier_ones, first_ones, Helps, IsTaker, MayBePassed, IsFirstHelped, IsBest, AreBest, AreChosen}
+use Rattle.hn_kept.specs.Choosing.{PlainAsked, EventComesTo, LeavesOver, earlier_ones, first_ones, Helps, IsTaker, MayBePassed, IsFirstHelped, IsBestWord, AreBest, AreChosen}
 use Rattle.hn_kept.proofs.Stream.{begins_listed, begins_taken, own_behind, more_listed, one_listed, same_front}
 use Rattle.hn_kept.proofs.DrawnWords.{drawn_first, drawn_more, drawn_of_none}
 
@@ -32,7 +32,7 @@ same_result one ask stream words next other done comes happened begins =
     one ask.moment ask.event ask.router next other comes.done done stream comes.happened happened
     (subst (λ (ws : List ℕ). Begins ws stream) (sym comes.words_are) comes.begins) begins
 
-same_left : OneResult → (ask : PlainAsked) (listed : List ℕ) (a b : State) → Leaves ask listed a → Leaves ask listed b → a ≡ b
+same_left : OneResult → (ask : PlainAsked) (listed : List ℕ) (a b : State) → LeavesOver ask listed a → LeavesOver ask listed b → a ≡ b
 same_left one ask listed a b p q =
     (same_result one ask (listed_word listed ask.words) p.words a b q.comes.done p.comes q.comes.happened
     (begins_along q.words q.comes.done.words (listed_word listed ask.words) (sym q.comes.words_are) q.comes.begins)).0
@@ -55,7 +55,7 @@ comes_of_plan ask stream told_after plan next done happened took is_next is_done
 -- ---- which pairs are helped
 
 -- none that does not miss its prefix
-pub not_missed : OneResult → (ask : PlainAsked) (front : List ℕ) (f : Preferred) (own : State) → Leaves ask front own
+pub not_missed : OneResult → (ask : PlainAsked) (front : List ℕ) (f : Preferred) (own : State) → LeavesOver ask front own
     → is_missed ask.moment own.held.assigned f ≡ false → ¬ (Helps ask front f)
 not_missed one ask front f own leaves not helps =
     let same : helps.own ≡ own = same_left one ask front helps.own own helps.is_own leaves in
@@ -63,7 +63,7 @@ not_missed one ask front f own leaves not helps =
 
 -- one that is served by the word of its place
 pub helps_by : (ask : PlainAsked) (front : List ℕ) (f : Preferred) (own other : State) (had now : List Assigned) → had ≡ own.held.assigned → now ≡ other.held.assigned
-    → Leaves ask front own → is_missed ask.moment own.held.assigned f ≡ true → Leaves ask (front ++ word_of f ∷ []) other
+    → LeavesOver ask front own → is_missed ask.moment own.held.assigned f ≡ true → LeavesOver ask (front ++ word_of f ∷ []) other
     → (is_kept now f ≡ true) × (earlier_ones (preferred_pair f) now ≡ earlier_ones (preferred_pair f) had) → Helps ask front f
 helps_by ask front f own other had now had_is now_is leaves missed others (kept, earlier) = record {
   own = own;
@@ -77,7 +77,7 @@ helps_by ask front f own other had now had_is now_is leaves missed others (kept,
 
 -- none that is not
 pub not_served : OneResult → (ask : PlainAsked) (front : List ℕ) (f : Preferred) (own other : State) (had now : List Assigned) → had ≡ own.held.assigned → now ≡ other.held.assigned
-    → Leaves ask front own → Leaves ask (front ++ word_of f ∷ []) other
+    → LeavesOver ask front own → LeavesOver ask (front ++ word_of f ∷ []) other
     → ¬ ((is_kept now f ≡ true) × (earlier_ones (preferred_pair f) now ≡ earlier_ones (preferred_pair f) had)) → ¬ (Helps ask front f)
 not_served one ask front f own other had now had_is now_is leaves others not helps =
     let of_own : helps.own.held.assigned ≡ had = ap (λ (s : State). s.held.assigned) (same_left one ask front helps.own own helps.is_own leaves) ∙ sym had_is in
@@ -88,7 +88,7 @@ not_served one ask front f own other had now had_is now_is leaves others not hel
 
 -- what comes of the word of the place
 pub others_left : (ask : PlainAsked) (front listed words : List ℕ) (word : ℕ) (f : Preferred) (next : State) → listed ≡ front ++ word ∷ [] → word ≡ word_of f
-    → EventComesTo ask (listed_word listed ask.words) words next → Leaves ask (front ++ word_of f ∷ []) next
+    → EventComesTo ask (listed_word listed ask.words) words next → LeavesOver ask (front ++ word_of f ∷ []) next
 others_left ask front listed words word f next is of comes = record {
   words = words;
   comes = subst (λ (ls : List ℕ). EventComesTo ask (listed_word ls ask.words) words next) (is ∙ ap (λ (w : ℕ). front ++ w ∷ []) of) comes;
@@ -96,7 +96,7 @@ others_left ask front listed words word f next is of comes = record {
 
 -- the pair that is found takes the word
 pub taker_of : (ask : PlainAsked) (front : List ℕ) (word : ℕ) (own other : State) (had now : List Assigned) (found : Option Pair) → had ≡ own.held.assigned → now ≡ other.held.assigned
-    → Leaves ask front own → Leaves ask (front ++ word ∷ []) other → IfSome found (λ pair. earlier_ones pair now ≡ earlier_ones pair had)
+    → LeavesOver ask front own → LeavesOver ask (front ++ word ∷ []) other → IfSome found (λ pair. earlier_ones pair now ≡ earlier_ones pair had)
     → IfSome found (λ pair. ¬ (first_ones pair now ≡ first_ones pair had)) → IfSome found (IsTaker ask front)
 taker_of ask front word own other had now None had_is now_is leaves others earlier changed = tt
 taker_of ask front word own other had now (Some pair) had_is now_is leaves others earlier changed = record {
@@ -110,7 +110,7 @@ taker_of ask front word own other had now (Some pair) had_is now_is leaves other
 }
 
 -- what may be passed over
-pub passed : OneResult → (ask : PlainAsked) (front : List ℕ) (f : Preferred) (own : State) (found : Option Pair) → Leaves ask front own → IfSome found (IsTaker ask front)
+pub passed : OneResult → (ask : PlainAsked) (front : List ℕ) (f : Preferred) (own : State) (found : Option Pair) → LeavesOver ask front own → IfSome found (IsTaker ask front)
     → (is_missed ask.moment own.held.assigned f ≡ false) ⊎ ((pair : Pair) × (found ≡ Some pair) × ¬ (pair ≡ preferred_pair f)) → MayBePassed ask front f
 passed one ask front f own found leaves taker (inl not) helps = absurd (not_missed one ask front f own leaves not helps)
 passed one ask front f own found leaves taker (inr (pair, is, another)) helps = (pair, subst (λ (o : Option Pair). IfSome o (IsTaker ask front)) is taker, another)
@@ -155,29 +155,29 @@ pub none_chosen : (ask : PlainAsked) → AreBest ask []
 none_chosen ask i within = absurd (omega (arith, within))
 
 -- one word more
-pub one_chosen : (ask : PlainAsked) (words : List ℕ) (w : ℕ) → AreBest ask words → IsBest ask words w → AreBest ask (words ++ w ∷ [])
+pub one_chosen : (ask : PlainAsked) (words : List ℕ) (w : ℕ) → AreBest ask words → IsBestWord ask words w → AreBest ask (words ++ w ∷ [])
 one_chosen ask words w before here i within = elim (cases_lt i (length words)) [
-  | inl below ↦ subst (λ (front : List ℕ). IsBest ask front (get_or (words ++ w ∷ []) i 0)) (sym (take-append-le i words (w ∷ []) (omega (arith, below))))
-      (subst (IsBest ask (take i words)) (sym (get_or_append_left words (w ∷ []) 0 i below)) (before i below))
+  | inl below ↦ subst (λ (front : List ℕ). IsBestWord ask front (get_or (words ++ w ∷ []) i 0)) (sym (take-append-le i words (w ∷ []) (omega (arith, below))))
+      (subst (IsBestWord ask (take i words)) (sym (get_or_append_left words (w ∷ []) 0 i below)) (before i below))
   | inr past ↦
       let last : length words ≡ i = omega (arith, within, past, length-append words (w ∷ [])) in
-      subst (λ (k : ℕ). IsBest ask (take k (words ++ w ∷ [])) (get_or (words ++ w ∷ []) k 0)) last
-      (subst (λ (front : List ℕ). IsBest ask front (get_or (words ++ w ∷ []) (length words) 0)) (sym (take-append_seam words (w ∷ [])))
-      (subst (IsBest ask words) (sym (get_or-append_seam words w [] 0)) here))
+      subst (λ (k : ℕ). IsBestWord ask (take k (words ++ w ∷ [])) (get_or (words ++ w ∷ []) k 0)) last
+      (subst (λ (front : List ℕ). IsBestWord ask front (get_or (words ++ w ∷ []) (length words) 0)) (sym (take-append_seam words (w ∷ [])))
+      (subst (IsBestWord ask words) (sym (get_or-append_seam words w [] 0)) here))
 ]
 
 -- it is drawn
-pub drawn_one : (ask : PlainAsked) (words : List ℕ) (w : ℕ) → AreDrawn ask.preferred ask.words words → IsBest ask words w → AreDrawn ask.preferred ask.words (words ++ w ∷ [])
+pub drawn_one : (ask : PlainAsked) (words : List ℕ) (w : ℕ) → AreDrawn ask.preferred ask.words words → IsBestWord ask words w → AreDrawn ask.preferred ask.words (words ++ w ∷ [])
 drawn_one ask words w drawn (inl (f, first, is)) = drawn_more ask.preferred ask.words words w drawn (inr (f, first.preferred, is))
 drawn_one ask words w drawn (inr (none, is)) = drawn_more ask.preferred ask.words words w drawn (inl is)
 
 -- that of the first one that is helped
-pub best_helped : (ask : PlainAsked) (front : List ℕ) (w : ℕ) → (f : Preferred) × IsFirstHelped ask front f × (w ≡ word_of f) → IsBest ask front w
+pub best_helped : (ask : PlainAsked) (front : List ℕ) (w : ℕ) → (f : Preferred) × IsFirstHelped ask front f × (w ≡ word_of f) → IsBestWord ask front w
 best_helped ask front w found = inl found
 
 -- or the generator's own
 pub best_own : (ask : PlainAsked) (front words : List ℕ) (w : ℕ) → Begins words (listed_word front ask.words) → length front < length words → w ≡ get_or words (length front) 0
-    → ((f : Preferred) → Contains ask.preferred f → MayBePassed ask front f) → IsBest ask front w
+    → ((f : Preferred) → Contains ask.preferred f → MayBePassed ask front f) → IsBestWord ask front w
 best_own ask front words w begins within is none = inr (none, is ∙ begins (length front) within ∙ own_behind front ask.words (length front) (omega arith))
 
 -- with the generator's own word as one more that is chosen, the same comes
@@ -208,10 +208,10 @@ chosen_of one ask chosen words own comes drawn best over = record {
     | inl below ↦
         let front : take i words ≡ take i chosen = same_front chosen words ask.words i comes.begins (omega (arith, below)) (omega (arith, within)) in
         let word : get_or words i 0 ≡ get_or chosen i 0 = comes.begins i within ∙ sym (begins_listed chosen ask.words i below) in
-        subst (λ (ws : List ℕ). IsBest ask ws (get_or words i 0)) (sym front) (subst (IsBest ask (take i chosen)) (sym word) (best i below))
+        subst (λ (ws : List ℕ). IsBestWord ask ws (get_or words i 0)) (sym front) (subst (IsBestWord ask (take i chosen)) (sym word) (best i below))
     | inr past ↦
         let many : length (take i words) ≡ i = length-take-le i words (omega (arith, within)) in
-        let leaves : Leaves ask (take i words) own = record {
+        let leaves : LeavesOver ask (take i words) own = record {
           words = words;
           comes = comes_over ask (listed_word chosen ask.words) (listed_word (take i words) ask.words) words own comes (more_listed chosen words ask.words i comes.begins past (omega (arith, within)));
         } in inr (

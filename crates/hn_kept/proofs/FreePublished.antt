@@ -18,7 +18,7 @@ use Rattle.hn_router.specs.Act.{Tick, Happened, HasResults}
 use Rattle.hn_router.specs.Laws.{EventHasAResult, RouterStays}
 use Rattle.hn_kept.specs.declared.preferred.Preferred.{Preferred}
 use Rattle.hn_kept.specs.Anew.{words_before, IsMadeAnew, scene_in}
-use Rattle.hn_kept.specs.Choosing.{PlainAsked, Leaves, earlier_ones, first_ones, Helps, IsTaker, MayBePassed, IsBest}
+use Rattle.hn_kept.specs.Choosing.{PlainAsked, LeavesOver, earlier_ones, first_ones, Helps, IsTaker, MayBePassed, IsBestWord}
 use Rattle.hn_kept.specs.Kept.{Kept, asked_of}
 use Rattle.hn_kept.specs.Laws.{IsTickOf, IsOfScene, published_at, FreeIsPublished}
 use Rattle.hn_kept.specs.Preferred.{preferred_pair, word_of, is_kept}
@@ -74,7 +74,7 @@ module _ (laws : FreeLaws) (now : ℕ) (before after : Kept) (f : Preferred) (ti
         ascends = (laws.stays now Tick before.router next done tick.router tick.not_before tt happens).well.pairs.assigned;
       }
 
-  leaves : (listed : List ℕ) (next : State) → Leaves ask listed next → Begins front (listed_word listed before.words) → IsOver (listed_word listed before.words) next
+  leaves : (listed : List ℕ) (next : State) → LeavesOver ask listed next → Begins front (listed_word listed before.words) → IsOver (listed_word listed before.words) next
   leaves listed next left at_turn =
       over (listed_word listed before.words) next left.comes.done left.comes.happened
       (begins_along left.words left.comes.done.words (listed_word listed before.words) (sym left.comes.words_are) left.comes.begins) at_turn
@@ -124,10 +124,10 @@ module _ (laws : FreeLaws) (now : ℕ) (before after : Kept) (f : Preferred) (ti
   after_over : IsOver all after.router
   after_over = over all after.router after.done tick.acts.happened (begins_listed after.done.words before.words) (begins_front front (anew.word ∷ anew.rest) all all_begins)
 
-  own_over : (next : State) → Leaves ask front next → IsOver own next
+  own_over : (next : State) → LeavesOver ask front next → IsOver own next
   own_over next left = leaves front next left (begins_listed front before.words)
 
-  instead_over : (w : ℕ) (next : State) → Leaves ask (front ++ w ∷ []) next → IsOver (instead w) next
+  instead_over : (w : ℕ) (next : State) → LeavesOver ask (front ++ w ∷ []) next → IsOver (instead w) next
   instead_over w next left = leaves (front ++ w ∷ []) next left (begins_front front (w ∷ []) (instead w) (begins_listed (front ++ w ∷ []) before.words))
 
   word_instead : (w : ℕ) → w ≡ instead w (length front)
@@ -148,13 +148,13 @@ module _ (laws : FreeLaws) (now : ℕ) (before after : Kept) (f : Preferred) (ti
   word_after = word_at front anew.word anew.rest all all_begins
 
   -- the word of the turn is the one that is chosen there
-  word_is_best : IsBest ask front anew.word
+  word_is_best : IsBestWord ask front anew.word
   word_is_best =
       let many = length-append front (anew.word ∷ anew.rest) in
       let best = tick.acts.best refl (length front) (let long = ap (λ (ws : List ℕ). length ws) anew.took in omega (arith, many, long)) in
       let at_front : take (length front) after.done.words ≡ front = ap (take (length front)) anew.took ∙ take-append_seam front (anew.word ∷ anew.rest) in
       let at_word : get_or after.done.words (length front) 0 ≡ anew.word = ap (λ (ws : List ℕ). get_or ws (length front) 0) anew.took ∙ get_or-append_seam front anew.word anew.rest 0 in
-      subst (IsBest ask front) at_word (subst (λ (ws : List ℕ). IsBest ask ws (get_or after.done.words (length front) 0)) at_front best)
+      subst (IsBestWord ask front) at_word (subst (λ (ws : List ℕ). IsBestWord ask ws (get_or after.done.words (length front) 0)) at_front best)
 
   module _ (of : IsOfScene (scene_in anew) f) (free : IsFreeFor (scene_in anew) f.prefix) where
     -- with the word of its place it gets the preferred prefix
@@ -163,13 +163,13 @@ module _ (laws : FreeLaws) (now : ℕ) (before after : Kept) (f : Preferred) (ti
         subst (λ (h : Held). Contains h.assigned (given now f f.prefix)) (sym run.held)
         (gets_preferred laws.turns now before.router after.done.words f anew laws.first laws.inside of free run.end stream run.went run.begins at_place)
 
-    kept_instead : (next : State) → Leaves ask (front ++ word_of f ∷ []) next → is_kept next.held.assigned f ≡ true
+    kept_instead : (next : State) → LeavesOver ask (front ++ word_of f ∷ []) next → is_kept next.held.assigned f ≡ true
     kept_instead next left =
         is_kept_by f next.held.assigned (given now f f.prefix)
         (got_preferred (instead (word_of f)) next (instead_over (word_of f) next left) (sym (word_instead (word_of f)))) refl refl
 
     -- where it would get another one, that word helps it
-    helps : (next other : State) (left : Leaves ask front next) → Leaves ask (front ++ word_of f ∷ []) other → ¬ ((got own next (own_over next left)).0 ≡ f.prefix) → Helps ask front f
+    helps : (next other : State) (left : LeavesOver ask front next) → LeavesOver ask (front ++ word_of f ∷ []) other → ¬ ((got own next (own_over next left)).0 ≡ f.prefix) → Helps ask front f
     helps next other left others another =
         let run = own_over next left in
         let it = got own next run in
@@ -236,7 +236,7 @@ module _ (laws : FreeLaws) (now : ℕ) (before after : Kept) (f : Preferred) (ti
         (got_preferred all after.router after_over (sym word_after ∙ word)) refl)
 
     -- whatever word is chosen, it has it
-    by_word : (next other : State) (left : Leaves ask front next) → Leaves ask (front ++ word_of f ∷ []) other → IsBest ask front anew.word → (got all after.router after_over).0 ≡ f.prefix
+    by_word : (next other : State) (left : LeavesOver ask front next) → LeavesOver ask (front ++ word_of f ∷ []) other → IsBestWord ask front anew.word → (got all after.router after_over).0 ≡ f.prefix
     by_word next other left others (inr (none, word)) = elim (cases_by prefix_cmp prefix_total exact_prefix (got own next (own_over next left)).0 f.prefix) [
       | inl is ↦ same_got all own after.router next after_over (own_over next left) (sym word_after ∙ word ∙ sym (own_behind front before.words (length front) (omega arith))) ∙ is
       | inr another ↦ absurd (not_passed (none f tick.preferred) (helps next other left others another))
@@ -257,7 +257,7 @@ module _ (laws : FreeLaws) (now : ℕ) (before after : Kept) (f : Preferred) (ti
         absurd (none_earlier g less first.helped))
 
     -- the ticks that are compared have results
-    left_by : (listed : List ℕ) (next : State) (done : Done) → Happened now Tick before.router next done → Begins done.words (listed_word listed before.words) → Leaves ask listed next
+    left_by : (listed : List ℕ) (next : State) (done : Done) → Happened now Tick before.router next done → Begins done.words (listed_word listed before.words) → LeavesOver ask listed next
     left_by listed next done happens begins = record { words = done.words; comes = record { done = done; happened = happens; words_are = refl; begins = begins } }
 
     not_another : ¬ ((got all after.router after_over).0 ≡ f.prefix) → ⊥

@@ -35,7 +35,7 @@ pub record EventComesTo (ask : PlainAsked) (stream : ℕ → ℕ) (words : List 
   pub begins : Begins words stream
 
 -- it leaves this over listed words, and the generator's own behind them
-pub record Leaves (ask : PlainAsked) (listed : List ℕ) (next : State) : Type 0 where
+pub record LeavesOver (ask : PlainAsked) (listed : List ℕ) (next : State) : Type 0 where
   pub words : List ℕ
   pub comes : EventComesTo ask (listed_word listed ask.words) words next
 
@@ -55,20 +55,20 @@ first_ones pair assigned = filter (λ c. is_le (pair_cmp (assigned_pair c) pair)
 -- pair that comes before it has the same assignment.
 pub record Helps (ask : PlainAsked) (front : List ℕ) (f : Preferred) : Type 0 where
   pub own : State
-  pub is_own : Leaves ask front own
+  pub is_own : LeavesOver ask front own
   pub missed : is_missed ask.moment own.held.assigned f ≡ true
   pub other : State
-  pub is_other : Leaves ask (front ++ word_of f ∷ []) other
+  pub is_other : LeavesOver ask (front ++ word_of f ∷ []) other
   pub kept : is_kept other.held.assigned f ≡ true
   pub earlier : earlier_ones (preferred_pair f) other.held.assigned ≡ earlier_ones (preferred_pair f) own.held.assigned
 
 -- The word behind some words is taken by a pair: with some other word there, this is the first pair that has another assignment.
 pub record IsTaker (ask : PlainAsked) (front : List ℕ) (pair : Pair) : Type 0 where
   pub own : State
-  pub is_own : Leaves ask front own
+  pub is_own : LeavesOver ask front own
   pub word : ℕ
   pub other : State
-  pub is_other : Leaves ask (front ++ word ∷ []) other
+  pub is_other : LeavesOver ask (front ++ word ∷ []) other
   pub earlier : earlier_ones pair other.held.assigned ≡ earlier_ones pair own.held.assigned
   pub changed : ¬ (first_ones pair other.held.assigned ≡ first_ones pair own.held.assigned)
 
@@ -83,14 +83,14 @@ pub record IsFirstHelped (ask : PlainAsked) (front : List ℕ) (f : Preferred) :
   pub first : (g : Preferred) → Contains ask.preferred g → pair_cmp (preferred_pair g) (preferred_pair f) ≡ Less → MayBePassed ask front g
 
 -- The word behind some others is the first one that helps so; or the generator's own, where all may be passed over.
-abbrev pub IsBest : PlainAsked → List ℕ → ℕ → Type 0
-IsBest ask front word =
+abbrev pub IsBestWord : PlainAsked → List ℕ → ℕ → Type 0
+IsBestWord ask front word =
     ((f : Preferred) × IsFirstHelped ask front f × (word ≡ word_of f))
     ⊎ (((f : Preferred) → Contains ask.preferred f → MayBePassed ask front f) × (word ≡ chacha_word ask.words (length front)))
 
 -- each word is so behind those before it
 abbrev pub AreBest : PlainAsked → List ℕ → Type 0
-AreBest ask words = EachIndex words (λ place. IsBest ask (take place words) (slice_index words place))
+AreBest ask words = EachIndex words (λ place. IsBestWord ask (take place words) (slice_index words place))
 
 -- the words that are chosen
 pub record AreChosen (ask : PlainAsked) (words : List ℕ) : Type 0 where

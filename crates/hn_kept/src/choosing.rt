@@ -5,7 +5,7 @@ ghost use Rattle.std.specs.Prelude.{◌≡◌, ◌⊎◌, ◌^◌, ◌≤◌, tr
 ghost use Rattle.std.specs.List.{list_any};
 ghost use Rattle.hn_assign.specs.declared.pair.Pair.{Pair};
 ghost use Rattle.hn_assign.specs.Pair.{IsAscending};
-ghost use Rattle.hn_kept.specs.Choosing.{plain_asked, EventComesTo, ComesWith, Leaves, Helps, IsTaker, MayBePassed, IsFirstHelped, AreChosen};
+ghost use Rattle.hn_kept.specs.Choosing.{plain_asked, EventComesTo, ComesWith, LeavesOver, Helps, IsTaker, MayBePassed, IsFirstHelped, AreChosen};
 ghost use Rattle.hn_kept.specs.Preferred.{preferred_pair, word_of, is_missed};
 ghost use Rattle.hn_kept.specs.Words.{listed_word};
 
@@ -80,11 +80,11 @@ impl Asked<'_> {
     ) -> Result<Option<Words>, NoMemory>
         requires not_before { self.now.router.now.moment ≤ self.now.moment }
         requires in_range { self.now.moment ≤ 2 ^ 48 }
-        requires own { Leaves (plain_asked self.now) front.now own.now }
+        requires own { LeavesOver (plain_asked self.now) front.now own.now }
         requires missed { is_missed self.now.moment own.now.held.assigned wanted.now ≡ true }
         ensures helps { IfOk result (λ found. IfSome found (λ words. Helps (plain_asked self.now) front.now wanted.now)) }
         ensures comes { IfOk result (λ found. IfSome found (λ words. ComesWith (plain_asked self.now) front.now (word_of wanted.now) words other.new)) }
-        ensures leaves { IfOk result (λ found. Leaves (plain_asked self.now) (front.now ++ word_of wanted.now ∷ []) other.new) }
+        ensures leaves { IfOk result (λ found. LeavesOver (plain_asked self.now) (front.now ++ word_of wanted.now ∷ []) other.new) }
         ensures none { IfOk result (λ found. IfNone found (¬ (Helps (plain_asked self.now) front.now wanted.now))) }
     {
         one_result();
@@ -126,7 +126,7 @@ impl Asked<'_> {
     ) -> Result<Option<Words>, NoMemory>
         requires not_before { self.now.router.now.moment ≤ self.now.moment }
         requires in_range { self.now.moment ≤ 2 ^ 48 }
-        requires own { Leaves (plain_asked self.now) front.now own.now }
+        requires own { LeavesOver (plain_asked self.now) front.now own.now }
         requires taker { IfSome taker.old (IsTaker (plain_asked self.now) front.now) }
         ensures helps { IfOk result (λ found. IfSome found (λ words. Helps (plain_asked self.now) front.now wanted.now)) }
         ensures comes { IfOk result (λ found. IfSome found (λ words. ComesWith (plain_asked self.now) front.now (word_of wanted.now) words other.new)) }
@@ -157,7 +157,7 @@ impl Asked<'_> {
         requires not_before { self.now.router.now.moment ≤ self.now.moment }
         requires in_range { self.now.moment ≤ 2 ^ 48 }
         requires ascends { IsAscending preferred_pair self.now.preferred.now }
-        requires own { Leaves (plain_asked self.now) front.now own.now }
+        requires own { LeavesOver (plain_asked self.now) front.now own.now }
         ensures first { IfOk result (λ found. IfSome found (λ next. (f : Preferred) × IsFirstHelped (plain_asked self.now) front.now f × (next.0 ≡ word_of f))) }
         ensures comes { IfOk result (λ found. IfSome found (λ next. ComesWith (plain_asked self.now) front.now next.0 next.1 other.new)) }
         ensures none { IfOk result (λ found. IfNone found ((f : Preferred) → Contains self.now.preferred.now f → MayBePassed (plain_asked self.now) front.now f)) }

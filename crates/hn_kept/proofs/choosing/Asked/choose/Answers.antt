@@ -2,7 +2,7 @@ use Rattle.hn_base.proofs.Names.{◌≡◌, ◌∙◌, ◌<◌, ℕ, List, [], �
 use Rattle.std.specs.Prelude.{slice_index}
 use Rattle.hn_rules.specs.declared.state.State.{State}
 use Rattle.hn_kept.specs.declared.preferred.Preferred.{Preferred}
-use Rattle.hn_kept.specs.Choosing.{PlainAsked, plain_asked, EventComesTo, MayBePassed, IsFirstHelped, IsBest, AreBest}
+use Rattle.hn_kept.specs.Choosing.{PlainAsked, plain_asked, EventComesTo, MayBePassed, IsFirstHelped, IsBestWord, AreBest}
 use Rattle.hn_kept.specs.Preferred.{word_of}
 use Rattle.hn_kept.specs.Words.{listed_word, AreDrawn}
 use Rattle.hn_kept.proofs.Choosings.{none_chosen, one_chosen, drawn_one, best_helped, best_own, own_comes, chosen_of, of_some, of_none}
@@ -30,7 +30,7 @@ loop-own-preserved-in-Some c =
     let first = of_some (λ (next : ℕ × List ℕ). (f : Preferred) × IsFirstHelped ask front f × (next.0 ≡ word_of f)) c.in_ok-word.field-0 (word, others) c.in-Some.is c.in_ok-word.ensures.first in
     let comes = of_some (λ (next : ℕ × List ℕ). EventComesTo ask (listed_word (front ++ next.0 ∷ []) ask.words) next.1 c.first_helped.new.other)
     c.in_ok-word.field-0 (word, others) c.in-Some.is c.in_ok-word.ensures.comes in
-    let best : IsBest ask chosen word = subst (λ (ws : List ℕ). IsBest ask ws word) c.as_slice.ensures (best_helped ask front word first) in
+    let best : IsBestWord ask chosen word = subst (λ (ws : List ℕ). IsBestWord ask ws word) c.as_slice.ensures (best_helped ask front word first) in
     record {
       comes = subst (λ (ls : List ℕ). EventComesTo ask (listed_word ls ask.words) others c.swap.new.x) (ap (λ (ws : List ℕ). ws ++ word ∷ []) c.as_slice.ensures ∙ sym push)
           (subst (λ (s : State). EventComesTo ask (listed_word (front ++ word ∷ []) ask.words) others s) (sym c.swap.ensures.x_after) comes);
@@ -53,7 +53,7 @@ loop-own-preserved c =
     let none : (f : Preferred) → Contains ask.preferred f → MayBePassed ask chosen f =
     subst (λ (ws : List ℕ). (f : Preferred) → Contains ask.preferred f → MayBePassed ask ws f) c.as_slice.ensures
     (of_none ((f : Preferred) → Contains ask.preferred f → MayBePassed ask c.as_slice.result.now f) c.in_ok-word.field-0 c.in-None.is c.in_ok-word.ensures.none) in
-    let best : IsBest ask chosen word = best_own ask chosen words word c.loop-own.invariant.comes.begins within at none in
+    let best : IsBestWord ask chosen word = best_own ask chosen words word c.loop-own.invariant.comes.begins within at none in
     record {
       comes = own_comes ask chosen words c.push-in-None.new.self word c.loop-own.own push at within c.loop-own.invariant.comes;
       drawn = subst (AreDrawn ask.preferred ask.words) (sym push) (drawn_one ask chosen word c.loop-own.invariant.drawn best);

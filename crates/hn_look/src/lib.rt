@@ -12,7 +12,8 @@ mod status;
 mod step_text;
 mod words;
 
-pub use log::at_most_one_log;
+pub use log::{at_most_one_log, write_log};
 pub use program::run;
 pub use status::{BAD_USAGE, DONE, NO_MEMORY, REFUSED, SINK_FAILED, SOURCE_FAILED};
+pub use step_text::sender_place;
 pub use words::Form;

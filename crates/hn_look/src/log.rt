@@ -61,7 +61,11 @@ fn push_again(
 }
 
 /// Writes the log of a world, an event at a time: the trace is replayed in a world of the same version.
-pub(crate) fn write_log<K: Sink>(alloc: Global, world: &World, out: &mut K) -> Result<(), IoFault>
+///
+/// # Errors
+///
+/// `Failed` if and only if the count of faults of the sink rose; else out of memory. After either a front of the log was written.
+pub fn write_log<K: Sink>(alloc: Global, world: &World, out: &mut K) -> Result<(), IoFault>
     ensures written { OnOk result ((text : List ℕ) × IsLog world.now text × Appends (K.held out.old) (K.held out.new) text) }
     ensures cut { IfErr result (λ fault. (text : List ℕ) × IsLog world.now text × AppendsCut fault (K.held out.old) (K.held out.new) text) }
     ensures caused { IsCaused (result ≡ Err IoFault.Failed) (K.faults out.old) (K.faults out.new)

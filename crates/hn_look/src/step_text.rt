@@ -37,8 +37,8 @@ impl Made {
     }
 }
 
-/// The place of the router that sent a copy from this address.
-fn sender_place(from: Addr) -> usize
+/// The place of the router that sent a copy from this address, in order of definition from 0. Never allocates.
+pub fn sender_place(from: Addr) -> usize
     ensures { result ≡ sender_place from }
 {
     let ordinal = (from.ip >> 32) % (1 << 32);

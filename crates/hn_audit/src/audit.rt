@@ -104,7 +104,7 @@ pub trait Audit {
 
 /// The first witness by which a router is not settled, if it is not.
 fn first_unsettled(alloc: Global, world: &World, r: &Member) -> Result<Option<Unsettled>, NoMemory>
-    ensures { IfOk result (IsFirstUnsettled world.now r.now) }
+    ensures { IfOk result (IsFirstUnsettled world.now.parts r.now) }
 {
     let reach = r.router.reach();
     if let Some(found) = first_unknown(world, reach) {
@@ -121,14 +121,14 @@ fn first_unsettled(alloc: Global, world: &World, r: &Member) -> Result<Option<Un
 
 /// The first witness by which a router is not quiet, if it is not.
 fn first_unquiet(alloc: Global, world: &World, r: &Member) -> Result<Option<Unquiet>, NoMemory>
-    ensures { IfOk result (IsFirstUnquiet world.now r.now) }
+    ensures { IfOk result (IsFirstUnquiet world.now.parts r.now) }
 {
     let set = set_of(alloc, world, r.router.reach())?;
     first_acting(alloc, set.as_slice())
 }
 
 impl Audit for World {
-    ghost parts = { λ w. w };
+    ghost parts = { λ w. w.parts };
 
     fn reached(&self, alloc: Global, name: &Name) -> Result<Vec<Name>, NoMemory> {
         let Some(r) = self.member(name) else {

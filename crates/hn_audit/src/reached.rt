@@ -20,7 +20,7 @@ fn runs_as(member: &Member, id: NodeId) -> bool
 
 /// How many running routers have the identifier.
 fn count_of(world: &World, id: NodeId) -> usize
-    ensures { result ≡ count_by (runs_as id) world.now.members }
+    ensures { result ≡ count_by (runs_as id) world.now.parts.members }
 {
     let members = world.members();
     members.iter().filter(|m| runs_as(m, id)).count()
@@ -28,7 +28,7 @@ fn count_of(world: &World, id: NodeId) -> usize
 
 /// Whether the identifier is that of no running router or of more than one.
 fn unknown(world: &World, id: NodeId) -> Option<Unsettled>
-    ensures { FindsId world.now id result }
+    ensures { FindsId world.now.parts id result }
 {
     match count_of(world, id) {
         0 => Some(Unsettled::Unknown { id }),
@@ -39,7 +39,7 @@ fn unknown(world: &World, id: NodeId) -> Option<Unsettled>
 
 /// The first identifier that is not that of exactly one running router.
 pub(crate) fn first_unknown(world: &World, reach: &[NodeId]) -> Option<Unsettled>
-    ensures { FindsKnown world.now reach.now result }
+    ensures { FindsKnown world.now.parts reach.now result }
 {
     for id in reach {
         if let Some(found) = unknown(world, *id) {
@@ -62,7 +62,7 @@ pub(crate) fn set_of<'a>(
     world: &'a World,
     reach: &[NodeId],
 ) -> Result<Vec<&'a Member>, NoMemory>
-    ensures { IfOk result (λ set. members_of set.items ≡ filter (is_in_set reach.now) world.now.members) }
+    ensures { IfOk result (λ set. members_of set.items ≡ filter (is_in_set reach.now) world.now.parts.members) }
 {
     let mut set = Vec::new(alloc);
     for member in world.members() {

@@ -107,7 +107,7 @@ fn stranger(member: &Member, reach: &[NodeId], spots: &[Spot<'_>]) -> Option<Uns
 
 /// The first running router on a link of these that is not in the set.
 fn first_stranger(world: &World, reach: &[NodeId], spots: &[Spot<'_>]) -> Option<Unsettled>
-    ensures { IsFirstFound (FindsStranger reach.now (plain_spots spots.now)) world.now.members result }
+    ensures { IsFirstFound (FindsStranger reach.now (plain_spots spots.now)) world.now.parts.members result }
 {
     for m in world.members() {
         if let Some(found) = stranger(m, reach, spots) {
@@ -240,7 +240,7 @@ pub(crate) fn first_on_links(
     set: &[&Member],
     spots: &[Spot<'_>],
 ) -> Option<Unsettled>
-    ensures { FindsOnLinks world.now.members reach.now (members_of set.now) (plain_spots spots.now) result }
+    ensures { FindsOnLinks world.now.parts.members reach.now (members_of set.now) (plain_spots spots.now) result }
 {
     if let Some(found) = first_stranger(world, reach, spots) {
         return Some(found);

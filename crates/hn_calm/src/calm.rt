@@ -17,9 +17,9 @@ use std::alloc::Global;
 
 /// Whether a running router is settled and quiet.
 fn rests(alloc: Global, name: &Name, world: &World) -> Result<bool, NoMemory>
-    requires { IsTrue (runs (name_text name.now) world.now) }
-    ensures { IfOk result (λ answer. (r : Member) → member_named (name_text name.now) world.now ≡ Some r
-        → IsTrue answer ↔ (IsSettledByRules world.now r × IsQuietByRules world.now r)) }
+    requires { IsTrue (runs (name_text name.now) world.now.parts) }
+    ensures { IfOk result (λ answer. (r : Member) → member_named (name_text name.now) world.now.parts ≡ Some r
+        → IsTrue answer ↔ (IsSettledByRules world.now.parts r × IsQuietByRules world.now.parts r)) }
 {
     let settled = world.settled(alloc, name)?;
     let quiet = world.quiet(alloc, name)?;
@@ -34,8 +34,8 @@ fn rests(alloc: Global, name: &Name, world: &World) -> Result<bool, NoMemory>
 ///
 /// Out of memory.
 pub fn calm_text(alloc: Global, name: &Name, world: &World) -> Result<String, NoMemory>
-    requires { IsTrue (runs (name_text name.now) world.now) }
-    ensures { IfOk result (λ text. IsCalmText (name_text name.now) world.now (string_bytes text)) }
+    requires { IsTrue (runs (name_text name.now) world.now.parts) }
+    ensures { IfOk result (λ text. IsCalmText (name_text name.now) world.now.parts (string_bytes text)) }
 {
     let Some(r) = world.member(name) else {
         unreachable!()

@@ -24,7 +24,7 @@ fn ended(alloc: Global, m: &Member, now: Moment) -> Result<Option<Uncalm>, NoMem
 
 /// The first running router for which something has ended.
 pub(crate) fn first_ended(alloc: Global, world: &World) -> Result<Option<Uncalm>, NoMemory>
-    ensures { IfOk result (IsFirstFound (FindsEnded world.now.moment) world.now.members) }
+    ensures { IfOk result (IsFirstFound (FindsEnded world.now.parts.moment) world.now.parts.members) }
 {
     let now = world.moment();
     for m in world.members() {
@@ -37,7 +37,7 @@ pub(crate) fn first_ended(alloc: Global, world: &World) -> Result<Option<Uncalm>
 
 /// The first moment at which something ends that r or a running router keeps or sees.
 pub(crate) fn last_before(alloc: Global, world: &World, r: &Member) -> Result<Moment, NoMemory>
-    ensures { IfOk result (LastBefore r.now world.now.members) }
+    ensures { IfOk result (LastBefore r.now world.now.parts.members) }
 {
     let mut first = r.router.lasts_before(alloc)?;
     for m in world.members() {

@@ -26,7 +26,7 @@ fn apart(m: &Member, reach: &[NodeId]) -> Option<Uncalm>
 
 /// The first router that does.
 fn first_apart(world: &World, reach: &[NodeId]) -> Option<Uncalm>
-    ensures { IsFirstFound (FindsApart reach.now) world.now.members result }
+    ensures { IsFirstFound (FindsApart reach.now) world.now.parts.members result }
 {
     for m in world.members() {
         if let Some(found) = apart(m, reach) {
@@ -38,7 +38,7 @@ fn first_apart(world: &World, reach: &[NodeId]) -> Option<Uncalm>
 
 /// Whether a copy waits.
 fn waiting(world: &World) -> Option<Uncalm>
-    ensures { FindsWaiting world.now.copies result }
+    ensures { FindsWaiting world.now.parts.copies result }
 {
     match world.next_waiting() {
         Some(copy) => Some(Uncalm::Waits { copy }),
@@ -52,7 +52,7 @@ pub(crate) fn first_uncalm(
     world: &World,
     r: &Member,
 ) -> Result<Option<Uncalm>, NoMemory>
-    ensures { IfOk result (FindsUncalm world.now r.now) }
+    ensures { IfOk result (FindsUncalm world.now.parts r.now) }
 {
     if let Some(found) = first_apart(world, r.router.reach()) {
         return Ok(Some(found));

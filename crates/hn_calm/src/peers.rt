@@ -34,8 +34,8 @@ fn missing_of(
     port: &Port,
     peer: &Neighbour,
 ) -> Option<Uncalm>
-    requires { AreReached world.now r.now }
-    ensures { FindsPeer world.now r.now y.now port.now peer.now result }
+    requires { AreReached world.now.parts r.now }
+    ensures { FindsPeer world.now.parts r.now y.now port.now peer.now result }
 {
     let at = peer_at(y, port.id, peer);
     let contact = peer.contact;
@@ -53,8 +53,8 @@ fn missing_of(
 
 /// What is missing of the first peer of an endpoint of y of which something is.
 fn missing_at(world: &World, r: &Member, y: &Member, port: &Port) -> Option<Uncalm>
-    requires { AreReached world.now r.now }
-    ensures { FindsAtPort world.now r.now y.now port.now result }
+    requires { AreReached world.now.parts r.now }
+    ensures { FindsAtPort world.now.parts r.now y.now port.now result }
 {
     for peer in port.peers.as_slice() {
         if let Some(found) = missing_of(world, r, y, port, peer) {
@@ -66,8 +66,8 @@ fn missing_at(world: &World, r: &Member, y: &Member, port: &Port) -> Option<Unca
 
 /// The same, of the first endpoint of y.
 fn missing_at_ports(world: &World, r: &Member, y: &Member) -> Option<Uncalm>
-    requires { AreReached world.now r.now }
-    ensures { IsFirstFound (FindsAtPort world.now r.now y.now) y.now.router.ports result }
+    requires { AreReached world.now.parts r.now }
+    ensures { IsFirstFound (FindsAtPort world.now.parts r.now y.now) y.now.router.ports result }
 {
     for port in y.router.ports() {
         if let Some(found) = missing_at(world, r, y, port) {
@@ -79,8 +79,8 @@ fn missing_at_ports(world: &World, r: &Member, y: &Member) -> Option<Uncalm>
 
 /// The same, where y runs.
 fn missing_while_running(world: &World, r: &Member, y: &Member) -> Option<Uncalm>
-    requires { AreReached world.now r.now }
-    ensures { FindsAtRouter world.now r.now y.now result }
+    requires { AreReached world.now.parts r.now }
+    ensures { FindsAtRouter world.now.parts r.now y.now result }
 {
     if !y.running {
         return None;
@@ -90,8 +90,8 @@ fn missing_while_running(world: &World, r: &Member, y: &Member) -> Option<Uncalm
 
 /// The same, of the first router.
 pub(crate) fn missing_of_peers(world: &World, r: &Member) -> Option<Uncalm>
-    requires { AreReached world.now r.now }
-    ensures { FindsMissing world.now r.now result }
+    requires { AreReached world.now.parts r.now }
+    ensures { FindsMissing world.now.parts r.now result }
 {
     for y in world.members() {
         if let Some(found) = missing_while_running(world, r, y) {

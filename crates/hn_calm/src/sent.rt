@@ -71,7 +71,7 @@ pub(crate) fn sent(
     peer: &Neighbour,
     after: Option<Moment>,
 ) -> Option<Moment>
-    ensures { IsFirstFound (FindsSentOf y.now q peer.now after) world.now.members result }
+    ensures { IsFirstFound (FindsSentOf y.now q peer.now after) world.now.parts.members result }
 {
     for x in world.members() {
         if let Some(sent) = sent_while_running(x, y, q, peer, after) {

@@ -27,8 +27,8 @@ pub(crate) fn calm_so(alloc: Global, name: &Name, end: Moment) -> Result<String,
 
 /// What is said of one that is not settled or not quiet.
 pub(crate) fn restless_so(alloc: Global, name: &Name, world: &World) -> Result<String, NoMemory>
-    requires { IsTrue (runs (name_text name.now) world.now) }
-    ensures { IfOk result (λ text. (why : List ℕ) × IsWhy (name_text name.now) world.now why
+    requires { IsTrue (runs (name_text name.now) world.now.parts) }
+    ensures { IfOk result (λ text. (why : List ℕ) × IsWhy (name_text name.now) world.now.parts why
         × (string_bytes text ≡ restless_said name.now ++ why)) }
 {
     let why = why_text(alloc, name, world)?;

@@ -90,6 +90,7 @@ pub use Rattle.hn_world.specs.Laws.{StepIsUnique, WorldHasItsTrace, WorldHasItsV
 pub use Rattle.hn_world.specs.Names.{is_named, member_named}
 pub use Rattle.hn_world.specs.Receivers.{is_away, running_names}
 pub use Rattle.hn_world.specs.Refusal.{copy_at, refusal}
+pub use Rattle.hn_world.specs.SeenWorld.{SeenWorld, world_parts}
 pub use Rattle.hn_world.specs.Replay.{Goes, IsReplayed, IsSoundMember, Replays}
 pub use Rattle.hn_world.specs.Routed.{routed}
 pub use Rattle.hn_world.specs.Step.{FitsAt, IsWorldEventInRange, Step}

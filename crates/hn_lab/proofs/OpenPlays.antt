@@ -110,7 +110,7 @@ no_more (x ∷ xs) ys h = no_more xs ys cc
 -- it is plain, and refused: nothing changed
 pub next_same : MailDelivers → (script : Script) (l : Line) (code : ℕ) (old new : Playing) (t u : List ℕ) → is_plain l ≡ true → IsPlayedSoFar script (Some end.Done) old t
     → Ending l (Some (Refused code)) old new t u
-    → IsPlayedSoFar script (Some end.Done) new u × (u ≡ t) × (new.world ≡ old.world)
+    → IsPlayedSoFar script (Some end.Done) new u × (u ≡ t) × (new.world.parts ≡ old.world.parts)
 next_same delivers script l code old new t u plain h ends =
     let e = ends h.0 in
     let same : e.at ≡ stage_of old Mail h.0 = line_same delivers l plain code (stage_of old Mail h.0) e.at refl e.ended in
@@ -148,7 +148,7 @@ keeps script l same how old new t u is_open is h ends =
     (subst (λ (x : Line). IsPlayedSoFar (with_line x script) (Some end.Done) new u) (sym is) (next_done script l old new t u (opened script how old t is_open h) ends))
 
 pub stays : MailDelivers → (script : Script) (l : Line) (code : ℕ) (how : Option End) (old new : Playing) (t u : List ℕ) → how ≡ Some end.Done → is_plain l ≡ true
-    → IsPlayedSoFar script how old t → Ending l (Some (Refused code)) old new t u → IsPlayedSoFar script how new u × (u ≡ t) × (new.world ≡ old.world)
+    → IsPlayedSoFar script how old t → Ending l (Some (Refused code)) old new t u → IsPlayedSoFar script how new u × (u ≡ t) × (new.world.parts ≡ old.world.parts)
 stays delivers script l code how old new t u is_open plain h ends =
     let same = next_same delivers script l code old new t u plain (opened script how old t is_open h) ends in
     (subst (λ (x : Option End). IsPlayedSoFar script x new u) (sym is_open) same.0, same.1, same.2)
@@ -161,7 +161,7 @@ refuses script l code how old new t u is_open h ends =
     refused_next script l code (stage_of old Mail so.0) (ends so.0).at so.1 (ends so.0).ended
 
 pub refuses_at_once : (script : Script) (l : Line) (code : ℕ) (how : Option End) (old : Playing) (t : List ℕ) → how ≡ Some end.Done → IsPlayedSoFar script how old t
-    → unless_begun l old.world ≡ Some code
+    → unless_begun l old.world.parts ≡ Some code
     → (after : Stage) × IsPlay (next_of script l) (end.Refused (length script.lines + 2) code) (begun Mail script.version) after
 refuses_at_once script l code how old t is_open h is =
     let so = opened script how old t is_open h in let p = stage_of old Mail so.0 in
@@ -196,13 +196,13 @@ played_as script after how other p q t u script_is how_is playing_is text_is h =
 -- ---- the transcript of the lines so far
 
 pub of_transcript : (script : Script) (source : List ℕ) (how : Option End) (new : Playing) (u : List ℕ) → IsPlayedSoFar script how new u
-    → IsOfItsTranscript (record { script = script; source = source; end = how; world = new.world; text = u })
+    → IsOfItsTranscript (record { script = script; source = source; end = how; world = new.world.parts; text = u })
 of_transcript script source how new u h e is =
     let so = subst (λ (x : Option End). IsPlayedSoFar script x new u) is h in record {
       played = record { end = e; stage = stage_of new Mail so.0 };
       unbroken = so.3;
       play = so.1;
-      gives = λ i. record { status = status_of e; world = new.world; text = so.2 i };
+      gives = λ i. record { status = status_of e; world = new.world.parts; text = so.2 i };
     }
 
 -- ---- its beginning

@@ -21,7 +21,7 @@ script_of c = record { version = c.version; lines = c.lines.items }
 
 -- what is seen of it
 abbrev pub opened_of : ACourse → Opened
-opened_of c = record { script = script_of c; source = c.source.items; end = c.end; world = c.playing.world; text = c.text }
+opened_of c = record { script = script_of c; source = c.source.items; end = c.end; world = c.playing.world.parts; text = c.text }
 
 -- where memory did not end, the play of the script ended so, there, and this text came up
 abbrev pub IsPlayedSoFar : Script → Option End → Playing → List ℕ → Type 0

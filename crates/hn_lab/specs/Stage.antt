@@ -41,7 +41,7 @@ route_of (Some base) waiting = Ports base waiting
 -- a play over such a route, with this text so far
 abbrev pub stage_of : Playing → Route → List Told → Stage
 stage_of p route text = record {
-  world = p.world;
+  world = p.world.parts;
   loss = p.loss;
   words = stream_words p.words;
   route = route;

@@ -90,9 +90,9 @@ fn addressed(
     name: &Name,
     member: &Member,
 ) -> Result<&'static str, NoMemory>
-    requires named { member_named (name_text name.now) world.now ≡ Some member.now }
-    requires running { IsTrue (runs (name_text name.now) world.now) }
-    ensures { IfOk result (λ told. IsAddressed world.now member.now told.now) }
+    requires named { member_named (name_text name.now) world.now.parts ≡ Some member.now }
+    requires running { IsTrue (runs (name_text name.now) world.now.parts) }
+    ensures { IfOk result (λ told. IsAddressed world.now.parts member.now told.now) }
 {
     always_sound();
     settled_see_each_other();
@@ -116,9 +116,9 @@ pub(crate) fn addressed_line(
     name: &Name,
     member: &Member,
 ) -> Result<String, NoMemory>
-    requires named { member_named (name_text name.now) world.now ≡ Some member.now }
+    requires named { member_named (name_text name.now) world.now.parts ≡ Some member.now }
     requires running { unless_running member.now ≡ None }
-    ensures { IfOk result (λ line. IsAddressedLine name.now world.now member.now (string_bytes line)) }
+    ensures { IfOk result (λ line. IsAddressedLine name.now world.now.parts member.now (string_bytes line)) }
 {
     let told = addressed(alloc, world, name, member)?;
     Ok(format!(in alloc; "addressed {name} {told}\n")?)

@@ -19,9 +19,9 @@ fn audited(
     name: &Name,
     member: &Member,
 ) -> Result<&'static str, NoMemory>
-    requires named { member_named (name_text name.now) world.now ≡ Some member.now }
-    requires running { IsTrue (runs (name_text name.now) world.now) }
-    ensures { IfOk result (λ told. IsAudited world.now member.now told.now) }
+    requires named { member_named (name_text name.now) world.now.parts ≡ Some member.now }
+    requires running { IsTrue (runs (name_text name.now) world.now.parts) }
+    ensures { IfOk result (λ told. IsAudited world.now.parts member.now told.now) }
 {
     if !world.settled(alloc, name)? {
         return Ok("settled=no");
@@ -39,9 +39,9 @@ pub(crate) fn audit_line(
     name: &Name,
     member: &Member,
 ) -> Result<String, NoMemory>
-    requires named { member_named (name_text name.now) world.now ≡ Some member.now }
+    requires named { member_named (name_text name.now) world.now.parts ≡ Some member.now }
     requires running { unless_running member.now ≡ None }
-    ensures { IfOk result (λ line. IsAuditLine name.now world.now member.now (string_bytes line)) }
+    ensures { IfOk result (λ line. IsAuditLine name.now world.now.parts member.now (string_bytes line)) }
 {
     let told = audited(alloc, world, name, member)?;
     Ok(format!(in alloc; "audit {name} {told}\n")?)

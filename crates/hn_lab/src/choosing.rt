@@ -25,8 +25,8 @@ use std::alloc::{AllocError, Global};
 
 /// The running router of a name.
 fn running<'a>(world: &'a World, name: &Name) -> &'a Router
-    requires { unless_runs name.now world.now ≡ None }
-    ensures { (m : Member) × (member_named (name_text name.now) world.now ≡ Some m) × (result.now ≡ m.router) }
+    requires { unless_runs name.now world.now.parts ≡ None }
+    ensures { (m : Member) × (member_named (name_text name.now) world.now.parts ≡ Some m) × (result.now ≡ m.router) }
 {
     let Some(router) = world.router(name) else {
         unreachable!()

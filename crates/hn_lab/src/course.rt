@@ -63,7 +63,7 @@ fn is_plain(line: &Line) -> bool
 
 /// The code with which a line that is not plain is refused where it begins.
 fn unless_begun(world: &World, line: &Line) -> Option<u8>
-    ensures { result ≡ unless_begun line.now world.now }
+    ensures { result ≡ unless_begun line.now world.now.parts }
 {
     match line {
         Line::Run(end, _) => {
@@ -105,7 +105,7 @@ impl Course {
         lines_are_added();
         let source = opening(alloc, version)?;
         Ok(Course {
-            playing: Playing::new(alloc, version),
+            playing: Playing::new(alloc, version, false),
             version,
             lines: Vec::new(alloc),
             source,

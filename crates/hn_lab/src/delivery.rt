@@ -27,12 +27,12 @@ fn replace(
     copy: u64,
     bytes: Bytes,
 ) -> Result<Sequence<Note>, WorldFault>
-    requires { copy_at playing.old.world copy ≢ None }
-    ensures ends { (route : Route) (text : List Told) (c : MailCopy) → copy_at playing.old.world copy ≡ Some c
-        → IsAnsweredWith (λ notes. Replaces copy (injection_for playing.old.world c bytes) notes None) (IsReplaced copy (injection_for playing.old.world c bytes))
+    requires { copy_at playing.old.world.parts copy ≢ None }
+    ensures ends { (route : Route) (text : List Told) (c : MailCopy) → copy_at playing.old.world.parts copy ≡ Some c
+        → IsAnsweredWith (λ notes. Replaces copy (injection_for playing.old.world.parts c bytes) notes None) (IsReplaced copy (injection_for playing.old.world.parts c bytes))
         result (stage_of playing.old route text) (stage_of playing.new route text) }
-    ensures entered { OnOk result ((length playing.old.world.trace < 1000000)
-        × (length playing.old.world.trace < length playing.new.world.trace)) }
+    ensures entered { OnOk result ((length playing.old.world.parts.trace < 1000000)
+        × (length playing.old.world.parts.trace < length playing.new.world.parts.trace)) }
 {
     let Some(info) = playing.world.copy_info(copy) else {
         unreachable!()
@@ -55,12 +55,12 @@ fn come_to(
     copy: u64,
     carried: Carried,
 ) -> Result<Sequence<Note>, WorldFault>
-    requires { copy_at playing.old.world copy ≢ None }
-    ensures ends { (route : Route) (text : List Told) (c : MailCopy) → copy_at playing.old.world copy ≡ Some c
+    requires { copy_at playing.old.world.parts copy ≢ None }
+    ensures ends { (route : Route) (text : List Told) (c : MailCopy) → copy_at playing.old.world.parts copy ≡ Some c
         → IsAnsweredWith (λ notes. ComesTo copy c carried notes None) (ComesToSome copy c carried)
         result (stage_of playing.old route text) (stage_of playing.new route text) }
-    ensures entered { OnOk result ((length playing.old.world.trace < 1000000)
-        × (length playing.old.world.trace < length playing.new.world.trace)) }
+    ensures entered { OnOk result ((length playing.old.world.parts.trace < 1000000)
+        × (length playing.old.world.parts.trace < length playing.new.world.parts.trace)) }
 {
     match carried {
         Carried::Same => playing.noted(alloc, WEvent::Deliver { copy }),
@@ -77,11 +77,11 @@ fn convey<W, C: Carrier<W>>(
     outside: &mut W,
     copy: u64,
 ) -> Result<Sequence<Note>, Stop>
-    requires { refusal playing.old.world (event.Deliver copy) ≡ None }
+    requires { refusal playing.old.world.parts (event.Deliver copy) ≡ None }
     ensures ends { (text : List Told) → EndsWith (Conveys copy) (Delivers copy)
         result (stage_of playing.old (C.route carrier.now outside.old) text) (stage_of playing.new (C.route carrier.now outside.new) text) }
-    ensures entered { OnOk result ((length playing.old.world.trace < 1000000)
-        × (length playing.old.world.trace < length playing.new.world.trace)) }
+    ensures entered { OnOk result ((length playing.old.world.parts.trace < 1000000)
+        × (length playing.old.world.parts.trace < length playing.new.world.parts.trace)) }
     ensures caused { IsCaused (result ≡ Err Stop.WireFailed) (C.faults outside.old) (C.faults outside.new)
         (C.never_fails outside.old) (C.never_fails outside.new) }
 {
@@ -111,8 +111,8 @@ pub(crate) fn deliver<W, C: Carrier<W>>(
 ) -> Result<Sequence<Note>, Stop>
     ensures ends { (text : List Told) → EndsWith (DeliveryEnds copy) (Delivers copy)
         result (stage_of playing.old (C.route carrier.now outside.old) text) (stage_of playing.new (C.route carrier.now outside.new) text) }
-    ensures entered { OnOk result ((length playing.old.world.trace < 1000000)
-        × (length playing.old.world.trace < length playing.new.world.trace)) }
+    ensures entered { OnOk result ((length playing.old.world.parts.trace < 1000000)
+        × (length playing.old.world.parts.trace < length playing.new.world.parts.trace)) }
     ensures caused { IsCaused (result ≡ Err Stop.WireFailed) (C.faults outside.old) (C.faults outside.new)
         (C.never_fails outside.old) (C.never_fails outside.new) }
 {

@@ -35,7 +35,7 @@ fn loses(playing: &mut Playing) -> bool
 fn is_lost(playing: &mut Playing, copy: u64) -> bool
     ensures trace { playing.new.world ≡ playing.old.world }
     ensures lost { (route : Route) (text : List Told) (place : ℕ) (c : MailCopy) → copy ≡ suc place
-        → slice_get playing.old.world.copies place ≡ Some c
+        → slice_get playing.old.world.parts.copies place ≡ Some c
         → (result ≡ is_lost (stage_of playing.old route text) c) × (stage_of playing.new route text ≡ drawn (stage_of playing.old route text) c) }
 {
     playing.world.is_away(copy) || loses(playing)
@@ -53,8 +53,8 @@ fn treat<W, C: Carrier<W>>(
     ensures ends { (text : List Told) → Ended (TreatmentEnds lost copy) result
         (stage_of playing.old (C.route carrier.now outside.old) text)
         (stage_of playing.new (C.route carrier.now outside.new) text) }
-    ensures entered { OnOk result ((length playing.old.world.trace < 1000000)
-        × (length playing.old.world.trace < length playing.new.world.trace)) }
+    ensures entered { OnOk result ((length playing.old.world.parts.trace < 1000000)
+        × (length playing.old.world.parts.trace < length playing.new.world.parts.trace)) }
     ensures caused { IsCaused (result ≡ Err Stop.WireFailed) (C.faults outside.old) (C.faults outside.new)
         (C.never_fails outside.old) (C.never_fails outside.new) }
 {
@@ -73,11 +73,11 @@ fn treat_first<W, C: Carrier<W>>(
     outside: &mut W,
     copy: u64,
 ) -> Result<(), Stop>
-    requires { (place : ℕ) × (first_waiting playing.old.world.copies ≡ Some place) × (copy ≡ suc place) }
+    requires { (place : ℕ) × (first_waiting playing.old.world.parts.copies ≡ Some place) × (copy ≡ suc place) }
     ensures ends { (text : List Told) → Ended CopyEnds result (stage_of playing.old (C.route carrier.now outside.old) text)
         (stage_of playing.new (C.route carrier.now outside.new) text) }
-    ensures entered { OnOk result ((length playing.old.world.trace < 1000000)
-        × (length playing.old.world.trace < length playing.new.world.trace)) }
+    ensures entered { OnOk result ((length playing.old.world.parts.trace < 1000000)
+        × (length playing.old.world.parts.trace < length playing.new.world.parts.trace)) }
     ensures caused { IsCaused (result ≡ Err Stop.WireFailed) (C.faults outside.old) (C.faults outside.new)
         (C.never_fails outside.old) (C.never_fails outside.new) }
 {
@@ -99,7 +99,7 @@ pub(crate) fn flow<W, C: Carrier<W>>(
     ensures ends { (text : List Told) → Ended Flow result (stage_of playing.old (C.route carrier.now outside.old) text)
         (stage_of playing.new (C.route carrier.now outside.new) text) }
     ensures unwritten { result ≢ Err (Stop.Cut IoFault.Failed) }
-    ensures entered { OnOk result (length playing.old.world.trace ≤ length playing.new.world.trace) }
+    ensures entered { OnOk result (length playing.old.world.parts.trace ≤ length playing.new.world.parts.trace) }
     ensures caused { IsCaused (result ≡ Err Stop.WireFailed) (C.faults outside.old) (C.faults outside.new)
         (C.never_fails outside.old) (C.never_fails outside.new) }
 {

@@ -46,5 +46,6 @@ pub use law::{
 pub use notes::note_line;
 pub use open::{OpenPlay, lab_plays_the_source, lines_go_on, plain_refusals_change_nothing};
 pub use scripts::{
-    DONE, NO_MEMORY, Played, REFUSED, SINK_FAILED, SOURCE_FAILED, WIRE_FAILED, lab, play,
+    DONE, NO_MEMORY, Played, REFUSED, SINK_FAILED, SOURCE_FAILED, WIRE_FAILED, lab, lab_by_mail,
+    play,
 };

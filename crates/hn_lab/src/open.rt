@@ -81,7 +81,7 @@ impl OpenPlay {
 
     /// The world that the lines so far led to. Never allocates.
     pub fn world(&self) -> &World
-        ensures { result.now ≡ self.now.world }
+        ensures { result.now.parts ≡ self.now.world }
     {
         &self.course.playing.world
     }

@@ -1,4 +1,5 @@
 ghost use Rattle.std.specs.Prelude.{◌≡◌, ◌<◌, ◌+◌, List, [], None, OnOk, length};
+ghost use Rattle.hn_world.specs.Replay.{empty_world};
 ghost use Rattle.hn_world.specs.Step.{IsWorldEventInRange};
 ghost use Rattle.hn_audit.specs.Staying.{QuietStays};
 ghost use Rattle.hn_lab.specs.Delivery.{EventNotes, EventEnds};
@@ -27,13 +28,24 @@ pub struct Playing {
     pub room: Room,
 }
 
+/// A world of a version with nothing in it, which records its trace or not. Never allocates.
+fn empty_world(alloc: Global, version: Version, recorded: bool) -> World
+    ensures { result.parts ≡ empty_world version }
+{
+    if recorded {
+        World::recording(alloc, version)
+    } else {
+        World::without_trace(alloc, version)
+    }
+}
+
 impl Playing {
-    /// The play of a script of a version, as it begins. Never allocates.
-    pub(crate) fn new(alloc: Global, version: Version) -> Playing
+    /// The play of a script of a version, as it begins; its world records its trace or not. Never allocates.
+    pub(crate) fn new(alloc: Global, version: Version, recorded: bool) -> Playing
         ensures { (route : Route) → stage_of result route [] ≡ begun route version }
     {
         Playing {
-            world: World::of(alloc, version),
+            world: empty_world(alloc, version, recorded),
             loss: 0,
             words: Stream::zeros(),
             senders: Senders::new(alloc),
@@ -55,9 +67,9 @@ impl Playing {
         ensures ends { (route : Route) (text : List Told) → IsAnsweredWith (λ notes. EventNotes event notes None)
             (EventEnds event)
             result (stage_of self.old route text) (stage_of self.new route text) }
-        ensures entered { OnOk result ((length self.old.world.trace < 1000000)
-            × (length self.new.world.trace ≡ length self.old.world.trace + 1)) }
-        ensures stays { OnOk result (QuietStays event self.old.world self.new.world) }
+        ensures entered { OnOk result ((length self.old.world.parts.trace < 1000000)
+            × (length self.new.world.parts.trace ≡ length self.old.world.parts.trace + 1)) }
+        ensures stays { OnOk result (QuietStays event self.old.world.parts self.new.world.parts) }
     {
         each_event_is_entered();
         quiet_homes_stay();
@@ -74,8 +86,8 @@ impl Playing {
         requires { IsWorldEventInRange event }
         ensures ends { (route : Route) (text : List Told)
             → IsAnswered (EventEnds event) result (stage_of self.old route text) (stage_of self.new route text) }
-        ensures entered { OnOk result ((length self.old.world.trace < 1000000)
-            × (length self.new.world.trace ≡ length self.old.world.trace + 1)) }
+        ensures entered { OnOk result ((length self.old.world.parts.trace < 1000000)
+            × (length self.new.world.parts.trace ≡ length self.old.world.parts.trace + 1)) }
     {
         let _notes = self.noted(alloc, event)?;
         Ok(())

@@ -76,7 +76,7 @@ fn unless_on(member: &Member, endpoint: EpId) -> Option<u8>
 
 /// The code where there is no router of a name, it is stopped, or it has not attached an endpoint.
 pub(crate) fn unless_elects(world: &World, name: &Name, endpoint: EpId) -> Option<u8>
-    ensures { result ≡ unless_elects name.now endpoint world.now }
+    ensures { result ≡ unless_elects name.now endpoint world.now.parts }
 {
     match world.member(name) {
         Some(member) => unless_on(member, endpoint),
@@ -98,7 +98,7 @@ fn unless_about(member: &Member, about: About) -> Option<u8>
 
 /// The code with which a report is refused.
 fn unless_report(world: &World, report: &Report) -> Option<u8>
-    ensures { result ≡ unless_report report.now world.now }
+    ensures { result ≡ unless_report report.now world.now.parts }
 {
     match report {
         Report::Router(name, about) => match world.member(name) {
@@ -118,9 +118,9 @@ fn told_about(
     member: &Member,
     about: About,
 ) -> Result<Lines, NoMemory>
-    requires named { member_named (name_text name.now) world.now ≡ Some member.now }
+    requires named { member_named (name_text name.now) world.now.parts ≡ Some member.now }
     requires able { unless_about about member.now ≡ None }
-    ensures { IfOk result (IsAbout about name.now world.now member.now) }
+    ensures { IfOk result (IsAbout about name.now world.now.parts member.now) }
 {
     match about {
         About::Show => Lines::of(alloc, show_line(alloc, name, member)?),
@@ -138,8 +138,8 @@ fn told_about(
 
 /// What a report tells.
 fn told(alloc: Global, world: &World, report: &Report) -> Result<Lines, NoMemory>
-    requires able { unless_report report.now world.now ≡ None }
-    ensures { IfOk result (IsReport report.now world.now) }
+    requires able { unless_report report.now world.now.parts ≡ None }
+    ensures { IfOk result (IsReport report.now world.now.parts) }
 {
     match report {
         Report::Router(name, about) => {
@@ -161,8 +161,8 @@ fn told(alloc: Global, world: &World, report: &Report) -> Result<Lines, NoMemory
 ///
 /// It is refused, or memory ended.
 pub(crate) fn reported(alloc: Global, world: &World, report: &Report) -> Result<Lines, WorldFault>
-    ensures told { IfOk result (IsReport report.now world.now) }
-    ensures refused { (code : ℕ) → (result ≡ Err (fault.Refused code)) ↔ (unless_report report.now world.now ≡ Some code) }
+    ensures told { IfOk result (IsReport report.now world.now.parts) }
+    ensures refused { (code : ℕ) → (result ≡ Err (fault.Refused code)) ↔ (unless_report report.now world.now.parts ≡ Some code) }
 {
     if let Some(code) = unless_report(world, report) {
         return Err(WorldFault::Refused(code));

@@ -60,8 +60,8 @@ fn agreement_text(
 
 /// Whether two routers reach the same identifiers.
 fn reach_the_same(world: &World, left: &Name, right: &Name) -> bool
-    ensures { (a b : AMember) → member_named (name_text left.now) world.now ≡ Some a
-        → member_named (name_text right.now) world.now ≡ Some b
+    ensures { (a b : AMember) → member_named (name_text left.now) world.now.parts ≡ Some a
+        → member_named (name_text right.now) world.now.parts ≡ Some b
         → IsTrue result ↔ (a.router.reach ≡ b.router.reach) }
 {
     match (world.router(left), world.router(right)) {
@@ -77,8 +77,8 @@ pub(crate) fn compare_line(
     left: &Name,
     right: &Name,
 ) -> Result<String, NoMemory>
-    requires { unless_both_run left.now right.now world.now ≡ None }
-    ensures { IfOk result (λ line. Compares left.now right.now world.now (string_bytes line)) }
+    requires { unless_both_run left.now right.now world.now.parts ≡ None }
+    ensures { IfOk result (λ line. Compares left.now right.now world.now.parts (string_bytes line)) }
 {
     let agreement = world.compare(alloc, left, right)?;
     let text = agreement_text(alloc, &agreement, reach_the_same(world, left, right))?;
@@ -87,7 +87,7 @@ pub(crate) fn compare_line(
 
 /// The line on the mail.
 pub(crate) fn mail_line(alloc: Global, world: &World) -> Result<String, AllocError>
-    ensures { IfOk result (λ line. string_bytes line ≡ mail_report world.now) }
+    ensures { IfOk result (λ line. string_bytes line ≡ mail_report world.now.parts) }
 {
     let copies = world.copies();
     let waiting = world.waiting();

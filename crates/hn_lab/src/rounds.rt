@@ -31,7 +31,7 @@ fn ticks_of<K: Sink>(
     ensures ends { (route : Route) (text : List Told) → EndsWriting (EachProcess TickEnds names.now) result
         (stage_of playing.old route text) (stage_of playing.new route text) (K.held out.old) (K.held out.new) }
     ensures unbroken { result ≢ Err Stop.WireFailed }
-    ensures entered { OnOk result (length playing.old.world.trace ≤ length playing.new.world.trace) }
+    ensures entered { OnOk result (length playing.old.world.parts.trace ≤ length playing.new.world.parts.trace) }
     ensures sink_caused { IsCaused (result ≡ Err (Stop.Cut IoFault.Failed)) (K.faults out.old) (K.faults out.new)
         (K.never_fails out.old) (K.never_fails out.new) }
 {
@@ -46,7 +46,7 @@ fn ticks<K: Sink>(playing: &mut Playing, alloc: Global, out: &mut K) -> Result<(
     ensures ends { (route : Route) (text : List Told) → EndsWriting Ticks result (stage_of playing.old route text)
         (stage_of playing.new route text) (K.held out.old) (K.held out.new) }
     ensures unbroken { result ≢ Err Stop.WireFailed }
-    ensures entered { OnOk result (length playing.old.world.trace ≤ length playing.new.world.trace) }
+    ensures entered { OnOk result (length playing.old.world.parts.trace ≤ length playing.new.world.parts.trace) }
     ensures sink_caused { IsCaused (result ≡ Err (Stop.Cut IoFault.Failed)) (K.faults out.old) (K.faults out.new)
         (K.never_fails out.old) (K.never_fails out.new) }
 {
@@ -60,8 +60,8 @@ fn pass(playing: &mut Playing, alloc: Global, end: Moment, step: u64) -> Result<
     requires step { step ≤ 2 ^ 48 }
     ensures ends { (route : Route) (text : List Told) → IsAnswered (Passes end step) result (stage_of playing.old route text)
         (stage_of playing.new route text) }
-    ensures entered { OnOk result ((length playing.old.world.trace < 1000000)
-        × (length playing.new.world.trace ≡ length playing.old.world.trace + 1)) }
+    ensures entered { OnOk result ((length playing.old.world.parts.trace < 1000000)
+        × (length playing.new.world.parts.trace ≡ length playing.old.world.parts.trace + 1)) }
 {
     let moment = playing.world.moment().saturating_add(step).min(end);
     playing.event(alloc, WEvent::Time { moment })
@@ -82,8 +82,8 @@ fn round<K: Sink, W, C: Carrier<W>>(
     ensures ends { (text : List Told) → EndsWriting (Round end step) result
         (stage_of playing.old (C.route carrier.now outside.old) text)
         (stage_of playing.new (C.route carrier.now outside.new) text) (K.held out.old) (K.held out.new) }
-    ensures entered { OnOk result ((length playing.old.world.trace < 1000000)
-        × (length playing.old.world.trace < length playing.new.world.trace)) }
+    ensures entered { OnOk result ((length playing.old.world.parts.trace < 1000000)
+        × (length playing.old.world.parts.trace < length playing.new.world.parts.trace)) }
     ensures caused { IsCaused (result ≡ Err Stop.WireFailed) (C.faults outside.old) (C.faults outside.new)
         (C.never_fails outside.old) (C.never_fails outside.new) }
     ensures sink_caused { IsCaused (result ≡ Err (Stop.Cut IoFault.Failed)) (K.faults out.old) (K.faults out.new)

@@ -5,10 +5,11 @@ ghost use Rattle.hn_io.specs.Faults.{IsCaused};
 ghost use Rattle.hn_script.specs.Laws.{IsLimited};
 ghost use Rattle.hn_script.specs.Line.{IsOfVersion};
 ghost use Rattle.hn_streams.specs.Refusal.{refused_line};
+ghost use Rattle.hn_world.specs.SeenWorld.{world_parts};
 ghost use Rattle.hn_world.specs.Replay.{IsReplayed};
 ghost use Rattle.hn_lab.specs.declared.end.End.TheVariants as ends;
 ghost use Rattle.hn_lab.specs.Lab.{play_status, Plays, IsLineWritten, IsLabOf, IsLabRun, StatusOfScript, HasDonePlay, HasRefusal};
-ghost use Rattle.hn_lab.specs.Stage.{route_of};
+ghost use Rattle.hn_lab.specs.Stage.{Mail as ByMail, route_of};
 ghost use Rattle.hn_lab.specs.Transcripts.{IsLabTranscript, AppendsTranscript};
 
 use crate::carrying::{Carrier, Mail, Ports};
@@ -24,7 +25,7 @@ use hn_script::{
 };
 pub use hn_streams::{DONE, NO_MEMORY, REFUSED, SINK_FAILED, SOURCE_FAILED, WIRE_FAILED};
 use hn_streams::{read_all, write_refusal};
-use hn_wire::Wire;
+use hn_wire::{MemWire, Wire};
 use hn_world::World;
 use std::alloc::Global;
 
@@ -84,9 +85,10 @@ fn refuse<K: Sink>(alloc: Global, fault: ScriptFault, out: &mut K) -> Played
     }
 }
 
-/// Plays a script, whose lines are of its version, and writes its transcript.
+/// Plays a script, whose lines are of its version, and writes its transcript. The trace is recorded or not.
 fn play_over<K: Sink, W, C: Carrier<W>>(
     alloc: Global,
+    recorded: bool,
     script: Script,
     out: &mut K,
     carrier: &C,
@@ -95,13 +97,13 @@ fn play_over<K: Sink, W, C: Carrier<W>>(
     requires limited { AllByRecursion (λ line. IsLimited line.1) script.lines }
     requires of_version { AllByRecursion (λ line. IsOfVersion script.version line.1) script.lines }
     ensures plays { (written : List ℕ) × Plays (C.route carrier.now outside.old) (C.route carrier.now outside.new) script
-        result.status result.world written
+        result.status (world_parts result.world) written
         × Appends (K.held out.old) (K.held out.new) written }
     ensures done { HasDonePlay (C.route carrier.now outside.old) script → result.status ≢ REFUSED }
     ensures refused { HasRefusal (C.route carrier.now outside.old) script → result.status ≢ DONE }
     ensures no_world { result.status ≡ NO_MEMORY → result.world ≡ None }
     ensures world { result.status ≢ NO_MEMORY → IsSome result.world }
-    ensures replayed { IfSome result.world IsReplayed }
+    ensures replayed { IfSome (world_parts result.world) IsReplayed }
     ensures statuses { Contains (DONE ∷ REFUSED ∷ SINK_FAILED ∷ WIRE_FAILED ∷ NO_MEMORY ∷ []) result.status }
     ensures caused { IsCaused (result.status ≡ SINK_FAILED) (K.faults out.old) (K.faults out.new)
         (K.never_fails out.old) (K.never_fails out.new) }
@@ -109,7 +111,7 @@ fn play_over<K: Sink, W, C: Carrier<W>>(
         (C.never_fails outside.old) (C.never_fails outside.new) }
 {
     at_most_one_play();
-    let mut playing = Playing::new(alloc, script.version);
+    let mut playing = Playing::new(alloc, script.version, recorded);
     let end = play_lines(
         &mut playing,
         alloc,
@@ -126,6 +128,38 @@ fn play_over<K: Sink, W, C: Carrier<W>>(
     Played {
         status,
         world: Some(playing.world),
+    }
+}
+
+/// Plays a script, whose lines are of its version, and writes its transcript. The trace is recorded or not.
+fn play_script<K: Sink, W: Wire>(
+    alloc: Global,
+    recorded: bool,
+    script: Script,
+    out: &mut K,
+    wire: &mut W,
+    base: Option<u16>,
+) -> Played
+    requires limited { AllByRecursion (λ line. IsLimited line.1) script.lines }
+    requires of_version { AllByRecursion (λ line. IsOfVersion script.version line.1) script.lines }
+    requires base { IfSome base (λ port. port ≤ 65534) }
+    ensures plays { (written : List ℕ) × Plays (route_of base (W.waiting wire.old)) (route_of base (W.waiting wire.new)) script result.status (world_parts result.world) written
+        × Appends (K.held out.old) (K.held out.new) written }
+    ensures done { HasDonePlay (route_of base (W.waiting wire.old)) script → result.status ≢ REFUSED }
+    ensures refused { HasRefusal (route_of base (W.waiting wire.old)) script → result.status ≢ DONE }
+    ensures no_world { result.status ≡ NO_MEMORY → result.world ≡ None }
+    ensures world { result.status ≢ NO_MEMORY → IsSome result.world }
+    ensures replayed { IfSome (world_parts result.world) IsReplayed }
+    ensures statuses { Contains (DONE ∷ REFUSED ∷ SINK_FAILED ∷ WIRE_FAILED ∷ NO_MEMORY ∷ []) result.status }
+    ensures caused { IsCaused (result.status ≡ SINK_FAILED) (K.faults out.old) (K.faults out.new)
+        (K.never_fails out.old) (K.never_fails out.new) }
+    ensures wire_caused { IsCaused (result.status ≡ WIRE_FAILED) (W.faults wire.old) (W.faults wire.new)
+        (W.never_fails wire.old) (W.never_fails wire.new) }
+    ensures unwired { base ≡ None → (wire.new ≡ wire.old) × (result.status ≢ WIRE_FAILED) }
+{
+    match base {
+        None => play_over(alloc, recorded, script, out, &Mail, &mut ()),
+        Some(base) => play_over(alloc, recorded, script, out, &Ports::new(base), wire),
     }
 }
 
@@ -151,14 +185,14 @@ pub fn play<K: Sink, W: Wire>(
     requires limited { AllByRecursion (λ line. IsLimited line.1) script.lines }
     requires of_version { AllByRecursion (λ line. IsOfVersion script.version line.1) script.lines }
     requires base { IfSome base (λ port. port ≤ 65534) }
-    ensures plays { (written : List ℕ) × Plays (route_of base (W.waiting wire.old)) (route_of base (W.waiting wire.new)) script result.status result.world written
+    ensures plays { (written : List ℕ) × Plays (route_of base (W.waiting wire.old)) (route_of base (W.waiting wire.new)) script result.status (world_parts result.world) written
         × Appends (K.held out.old) (K.held out.new) written }
-    ensures transcript { base ≡ None → AppendsTranscript script result.status result.world (K.held out.old) (K.held out.new) }
+    ensures transcript { base ≡ None → AppendsTranscript script result.status (world_parts result.world) (K.held out.old) (K.held out.new) }
     ensures done { HasDonePlay (route_of base (W.waiting wire.old)) script → result.status ≢ REFUSED }
     ensures refused { HasRefusal (route_of base (W.waiting wire.old)) script → result.status ≢ DONE }
     ensures no_world { result.status ≡ NO_MEMORY → result.world ≡ None }
     ensures world { result.status ≢ NO_MEMORY → IsSome result.world }
-    ensures replayed { IfSome result.world IsReplayed }
+    ensures replayed { IfSome (world_parts result.world) IsReplayed }
     ensures statuses { Contains (DONE ∷ REFUSED ∷ SINK_FAILED ∷ WIRE_FAILED ∷ NO_MEMORY ∷ []) result.status }
     ensures caused { IsCaused (result.status ≡ SINK_FAILED) (K.faults out.old) (K.faults out.new)
         (K.never_fails out.old) (K.never_fails out.new) }
@@ -167,27 +201,25 @@ pub fn play<K: Sink, W: Wire>(
     ensures unwired { base ≡ None → (wire.new ≡ wire.old) × (result.status ≢ WIRE_FAILED) }
 {
     play_is_of_transcript();
-    match base {
-        None => play_over(alloc, script, out, &Mail, &mut ()),
-        Some(base) => play_over(alloc, script, out, &Ports::new(base), wire),
-    }
+    play_script(alloc, false, script, out, wire, base)
 }
 
-/// Plays the script that bytes are, or writes the line of their first fault.
+/// Plays the script that bytes are, or writes the line of their first fault. The trace is recorded or not.
 fn play_bytes<K: Sink, W: Wire>(
     alloc: Global,
+    recorded: bool,
     bytes: &[u8],
     out: &mut K,
     wire: &mut W,
     base: Option<u16>,
 ) -> Played
     requires base { IfSome base (λ port. port ≤ 65534) }
-    ensures lab { (written : List ℕ) × IsLabOf (route_of base (W.waiting wire.old)) (route_of base (W.waiting wire.new)) bytes.now result.status result.world written
+    ensures lab { (written : List ℕ) × IsLabOf (route_of base (W.waiting wire.old)) (route_of base (W.waiting wire.new)) bytes.now result.status (world_parts result.world) written
         × Appends (K.held out.old) (K.held out.new) written }
     ensures only { StatusOfScript (route_of base (W.waiting wire.old)) bytes.now result.status }
     ensures no_world { result.status ≡ NO_MEMORY → result.world ≡ None }
     ensures done_world { result.status ≡ DONE → IsSome result.world }
-    ensures replayed { IfSome result.world IsReplayed }
+    ensures replayed { IfSome (world_parts result.world) IsReplayed }
     ensures statuses { Contains (DONE ∷ REFUSED ∷ SINK_FAILED ∷ WIRE_FAILED ∷ NO_MEMORY ∷ []) result.status }
     ensures caused { IsCaused (result.status ≡ SINK_FAILED) (K.faults out.old) (K.faults out.new)
         (K.never_fails out.old) (K.never_fails out.new) }
@@ -200,9 +232,43 @@ fn play_bytes<K: Sink, W: Wire>(
     script_is_unique();
     fault_excludes_script();
     match parse(alloc, bytes) {
-        Ok(script) => play(alloc, script, out, wire, base),
+        Ok(script) => play_script(alloc, recorded, script, out, wire, base),
         Err(ParseFault::Script(fault)) => refuse(alloc, fault, out),
         Err(ParseFault::NoMemory) => Played::without_world(NO_MEMORY),
+    }
+}
+
+/// Reads a script, plays it, and writes its transcript. The trace is recorded or not.
+fn read_and_play<S: Source, K: Sink, W: Wire>(
+    alloc: Global,
+    recorded: bool,
+    src: &mut S,
+    out: &mut K,
+    wire: &mut W,
+    base: Option<u16>,
+) -> Played
+    requires base { IfSome base (λ port. port ≤ 65534) }
+    ensures lab { result.status ≢ SOURCE_FAILED → IsLabRun (route_of base (W.waiting wire.old)) (route_of base (W.waiting wire.new)) (S.left src.old)
+        result.status (world_parts result.world) (K.held out.old) (K.held out.new) }
+    ensures no_world { (result.status ≡ SOURCE_FAILED) ⊎ (result.status ≡ NO_MEMORY) → result.world ≡ None }
+    ensures done_world { result.status ≡ DONE → IsSome result.world }
+    ensures replayed { IfSome (world_parts result.world) IsReplayed }
+    ensures statuses { Contains (DONE ∷ REFUSED ∷ SOURCE_FAILED ∷ SINK_FAILED ∷ WIRE_FAILED ∷ NO_MEMORY ∷ []) result.status }
+    ensures unwritten { result.status ≡ SOURCE_FAILED → out.new ≡ out.old }
+    ensures unsent { result.status ≡ SOURCE_FAILED → wire.new ≡ wire.old }
+    ensures source_caused { IsCaused (result.status ≡ SOURCE_FAILED) (S.faults src.old) (S.faults src.new)
+        (S.never_fails src.old) (S.never_fails src.new) }
+    ensures sink_caused { IsCaused (result.status ≡ SINK_FAILED) (K.faults out.old) (K.faults out.new)
+        (K.never_fails out.old) (K.never_fails out.new) }
+    ensures wire_caused { IsCaused (result.status ≡ WIRE_FAILED) (W.faults wire.old) (W.faults wire.new)
+        (W.never_fails wire.old) (W.never_fails wire.new) }
+    ensures unwired { base ≡ None → (wire.new ≡ wire.old) × (result.status ≢ WIRE_FAILED) }
+    ensures bounded { (read : List ℕ) × (length read ≤ 2 ^ 24 + 1) × Consumes (S.left src.old) (S.left src.new) read }
+{
+    match read_all(alloc, src) {
+        Ok(bytes) => play_bytes(alloc, recorded, &bytes, out, wire, base),
+        Err(IoFault::Failed) => Played::without_world(SOURCE_FAILED),
+        Err(IoFault::NoMemory) => Played::without_world(NO_MEMORY),
     }
 }
 
@@ -227,12 +293,12 @@ pub fn lab<S: Source, K: Sink, W: Wire>(
 ) -> Played
     requires base { IfSome base (λ port. port ≤ 65534) }
     ensures lab { result.status ≢ SOURCE_FAILED → IsLabRun (route_of base (W.waiting wire.old)) (route_of base (W.waiting wire.new)) (S.left src.old)
-        result.status result.world (K.held out.old) (K.held out.new) }
+        result.status (world_parts result.world) (K.held out.old) (K.held out.new) }
     ensures transcript { base ≡ None → result.status ≢ SOURCE_FAILED → IsLabTranscript (route_of base (W.waiting wire.new)) (S.left src.old)
-        result.status result.world (K.held out.old) (K.held out.new) }
+        result.status (world_parts result.world) (K.held out.old) (K.held out.new) }
     ensures no_world { (result.status ≡ SOURCE_FAILED) ⊎ (result.status ≡ NO_MEMORY) → result.world ≡ None }
     ensures done_world { result.status ≡ DONE → IsSome result.world }
-    ensures replayed { IfSome result.world IsReplayed }
+    ensures replayed { IfSome (world_parts result.world) IsReplayed }
     ensures statuses { Contains (DONE ∷ REFUSED ∷ SOURCE_FAILED ∷ SINK_FAILED ∷ WIRE_FAILED ∷ NO_MEMORY ∷ []) result.status }
     ensures unwritten { result.status ≡ SOURCE_FAILED → out.new ≡ out.old }
     ensures unsent { result.status ≡ SOURCE_FAILED → wire.new ≡ wire.old }
@@ -246,9 +312,35 @@ pub fn lab<S: Source, K: Sink, W: Wire>(
     ensures bounded { (read : List ℕ) × (length read ≤ 2 ^ 24 + 1) × Consumes (S.left src.old) (S.left src.new) read }
 {
     lab_is_of_transcript();
-    match read_all(alloc, src) {
-        Ok(bytes) => play_bytes(alloc, &bytes, out, wire, base),
-        Err(IoFault::Failed) => Played::without_world(SOURCE_FAILED),
-        Err(IoFault::NoMemory) => Played::without_world(NO_MEMORY),
-    }
+    read_and_play(alloc, false, src, out, wire, base)
+}
+
+/// Reads a script, plays it by mail, and writes its transcript, as `lab` does without a base. Where it is recorded, the world
+/// keeps its trace as long as there is memory.
+///
+/// # Errors
+///
+/// The status says them, as that of `lab` does.
+pub fn lab_by_mail<S: Source, K: Sink>(
+    alloc: Global,
+    recorded: bool,
+    src: &mut S,
+    out: &mut K,
+) -> Played
+    ensures lab { result.status ≢ SOURCE_FAILED → IsLabRun ByMail ByMail (S.left src.old)
+        result.status (world_parts result.world) (K.held out.old) (K.held out.new) }
+    ensures no_world { (result.status ≡ SOURCE_FAILED) ⊎ (result.status ≡ NO_MEMORY) → result.world ≡ None }
+    ensures done_world { result.status ≡ DONE → IsSome result.world }
+    ensures replayed { IfSome (world_parts result.world) IsReplayed }
+    ensures statuses { Contains (DONE ∷ REFUSED ∷ SOURCE_FAILED ∷ SINK_FAILED ∷ WIRE_FAILED ∷ NO_MEMORY ∷ []) result.status }
+    ensures unwritten { result.status ≡ SOURCE_FAILED → out.new ≡ out.old }
+    ensures source_caused { IsCaused (result.status ≡ SOURCE_FAILED) (S.faults src.old) (S.faults src.new)
+        (S.never_fails src.old) (S.never_fails src.new) }
+    ensures sink_caused { IsCaused (result.status ≡ SINK_FAILED) (K.faults out.old) (K.faults out.new)
+        (K.never_fails out.old) (K.never_fails out.new) }
+    ensures unwired { result.status ≢ WIRE_FAILED }
+    ensures bounded { (read : List ℕ) × (length read ≤ 2 ^ 24 + 1) × Consumes (S.left src.old) (S.left src.new) read }
+{
+    let mut wire = MemWire::new(alloc, Vec::new(alloc));
+    read_and_play(alloc, recorded, src, out, &mut wire, None)
 }

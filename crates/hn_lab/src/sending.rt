@@ -49,7 +49,7 @@ fn ra_line(
 fn asked(playing: &Playing, place: usize, shape: &Shape) -> Sender
     requires { place < length playing.now.senders }
     ensures { (sending : Sending) → slice_get playing.now.senders place ≡ Some sending
-        → IsAsked playing.now.world.moment shape.now sending result }
+        → IsAsked playing.now.world.parts.moment shape.now sending result }
 {
     let sending = playing.senders.at(place);
     let mut sender = sending.sender;
@@ -153,7 +153,7 @@ pub(crate) fn tick<K: Sink>(
     ensures ends { (route : Route) (text : List Told) → EndsWriting (TickEnds name) result (stage_of playing.old route text)
         (stage_of playing.new route text) (K.held out.old) (K.held out.new) }
     ensures unbroken { result ≢ Err Stop.WireFailed }
-    ensures entered { OnOk result (length playing.old.world.trace ≤ length playing.new.world.trace) }
+    ensures entered { OnOk result (length playing.old.world.parts.trace ≤ length playing.new.world.parts.trace) }
     ensures sink_caused { IsCaused (result ≡ Err (Stop.Cut IoFault.Failed)) (K.faults out.old) (K.faults out.new)
         (K.never_fails out.old) (K.never_fails out.new) }
 {

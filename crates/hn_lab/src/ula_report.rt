@@ -65,9 +65,9 @@ fn generated_by(alloc: Global, members: &[Member], reach: &[NodeId]) -> Result<u
 
 /// Whether a running router is settled, and where it is, whether its set is still, and how many have a prefix then.
 fn ulas_text(alloc: Global, world: &World, name: &Name, member: &Member) -> Result<String, NoMemory>
-    requires named { member_named (name_text name.now) world.now ≡ Some member.now }
-    requires running { IsTrue (runs (name_text name.now) world.now) }
-    ensures { IfOk result (λ told. IsUlasTold world.now member.now (string_bytes told)) }
+    requires named { member_named (name_text name.now) world.now.parts ≡ Some member.now }
+    requires running { IsTrue (runs (name_text name.now) world.now.parts) }
+    ensures { IfOk result (λ told. IsUlasTold world.now.parts member.now (string_bytes told)) }
 {
     always_sound();
     settled_see_each_other();
@@ -93,9 +93,9 @@ pub(crate) fn ulas_line(
     name: &Name,
     member: &Member,
 ) -> Result<String, NoMemory>
-    requires named { member_named (name_text name.now) world.now ≡ Some member.now }
+    requires named { member_named (name_text name.now) world.now.parts ≡ Some member.now }
     requires running { unless_running member.now ≡ None }
-    ensures { IfOk result (λ line. IsUlasLine name.now world.now member.now (string_bytes line)) }
+    ensures { IfOk result (λ line. IsUlasLine name.now world.now.parts member.now (string_bytes line)) }
 {
     let told = ulas_text(alloc, world, name, member)?;
     Ok(format!(in alloc; "ulas {name} {told}\n")?)

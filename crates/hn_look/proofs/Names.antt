@@ -9,6 +9,7 @@ pub use Rattle.hn_streams.specs.Laws.{PiecesAppend}
 pub use Rattle.hn_streams.specs.Output.{AppendsCut, AppendsPart}
 pub use Rattle.hn_table.specs.Table.{IsTableText}
 pub use Rattle.hn_why.specs.Why.{IsWhy}
+pub use Rattle.hn_world.specs.SeenWorld.{SeenWorld, world_parts}
 pub use Rattle.hn_world.specs.declared.member.Member.{Member}
 pub use Rattle.hn_world.specs.declared.parts.Parts.{Parts}
 pub use Rattle.std.proofs.Common.{append-nil}

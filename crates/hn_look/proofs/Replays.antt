@@ -153,6 +153,10 @@ starved_here w now i a b so_far =
     let rest = has_log now w (drop i w.trace) so_far.goes in
     (so_far.front ++ rest.0, so_far.goes_on rest.0 rest.1, (so_far.front, (rest.0, refl), so_far.appends))
 
+-- memory ended before anything was told
+pub untold : (w : Parts) (a : Option (List ℕ)) → IsReplayed w → (log : List ℕ) × IsLog w log × AppendsFront a a log
+untold w a h = starved_here w (empty_world w.version) 0 a a (begun w a h)
+
 -- all was told
 pub all_told : (w now : Parts) (i : ℕ) (a b : Option (List ℕ)) → length w.trace ≤ i → IsOnTheWay w now i a b → (log : List ℕ) × IsLog w log × Appends a b log
 all_told w now i a b past so_far =

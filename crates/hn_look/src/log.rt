@@ -28,9 +28,9 @@ pub fn at_most_one_log()
 /// Lets an event of a trace happen again, with the words that it took, where it is a step from this world. Answers what
 /// routers noted.
 fn again(alloc: Global, traced: &Traced, replay: &mut World) -> Result<Sequence<Note>, NoMemory>
-    requires { (notes : List ANote) × (after : Parts) × Step traced.now notes replay.old after }
-    ensures { (notes : List ANote) (after : Parts) → Step traced.now notes replay.old after
-        → IfOk result (λ noted. (noted ≡ notes) × (replay.new ≡ after)) }
+    requires { (notes : List ANote) × (after : Parts) × Step traced.now notes replay.old.parts after }
+    ensures { (notes : List ANote) (after : Parts) → Step traced.now notes replay.old.parts after
+        → IfOk result (λ noted. (noted ≡ notes) × (replay.new.parts ≡ after)) }
 {
     step_is_unique();
     let mut words = Listed::new(traced.words.copy(alloc)?.into_vec());
@@ -49,9 +49,9 @@ fn push_again(
     traced: &Traced,
     replay: &mut World,
 ) -> Result<(), NoMemory>
-    requires { (notes : List ANote) × (after : Parts) × Step traced.now notes replay.old after }
-    ensures same { (notes : List ANote) (after : Parts) → Step traced.now notes replay.old after → OnOk result (replay.new ≡ after) }
-    ensures told { OnOk result ((more : List ℕ) × IsStepText traced.now replay.old replay.new more
+    requires { (notes : List ANote) × (after : Parts) × Step traced.now notes replay.old.parts after }
+    ensures same { (notes : List ANote) (after : Parts) → Step traced.now notes replay.old.parts after → OnOk result (replay.new.parts ≡ after) }
+    ensures told { OnOk result ((more : List ℕ) × IsStepText traced.now replay.old.parts replay.new.parts more
         × (string_bytes text.new ≡ string_bytes text.old ++ more)) }
 {
     let before = Made::of(replay);
@@ -60,22 +60,24 @@ fn push_again(
     Ok(())
 }
 
-/// Writes the log of a world, an event at a time: the trace is replayed in a world of the same version.
-///
-/// # Errors
-///
-/// `Failed` if and only if the count of faults of the sink rose; else out of memory. After either a front of the log was written.
-pub fn write_log<K: Sink>(alloc: Global, world: &World, out: &mut K) -> Result<(), IoFault>
-    ensures written { OnOk result ((text : List ℕ) × IsLog world.now text × Appends (K.held out.old) (K.held out.new) text) }
-    ensures cut { IfErr result (λ fault. (text : List ℕ) × IsLog world.now text × AppendsCut fault (K.held out.old) (K.held out.new) text) }
+/// Writes the log of a world with this trace, an event at a time: the trace is replayed in a world of the same version.
+fn write_trace<K: Sink>(
+    alloc: Global,
+    world: &World,
+    trace: &[Traced],
+    out: &mut K,
+) -> Result<(), IoFault>
+    requires { trace.now ≡ world.now.parts.trace }
+    ensures written { OnOk result ((text : List ℕ) × IsLog world.now.parts text × Appends (K.held out.old) (K.held out.new) text) }
+    ensures cut { IfErr result (λ fault. (text : List ℕ) × IsLog world.now.parts text × AppendsCut fault (K.held out.old) (K.held out.new) text) }
     ensures caused { IsCaused (result ≡ Err IoFault.Failed) (K.faults out.old) (K.faults out.new)
         (K.never_fails out.old) (K.never_fails out.new) }
 {
     pieces_append();
     world.is_replayed();
-    let mut replay = World::of(alloc, world.language_version());
+    let mut replay = World::without_trace(alloc, world.language_version());
     let mut text = String::new(alloc);
-    for traced in world.trace() {
+    for traced in trace {
         text.clear();
         let Ok(()) = push_again(alloc, &mut text, traced, &mut replay) else {
             return Err(IoFault::NoMemory);
@@ -83,4 +85,22 @@ pub fn write_log<K: Sink>(alloc: Global, world: &World, out: &mut K) -> Result<(
         write_piece(out, text.as_bytes())?;
     }
     Ok(())
+}
+
+/// Writes the log of a world that records its trace. Where it was not recorded to its end, memory ended.
+///
+/// # Errors
+///
+/// `Failed` if and only if the count of faults of the sink rose; else out of memory. After either a front of the log was written.
+pub fn write_log<K: Sink>(alloc: Global, world: &World, out: &mut K) -> Result<(), IoFault>
+    ensures written { OnOk result ((text : List ℕ) × IsLog world.now.parts text × Appends (K.held out.old) (K.held out.new) text) }
+    ensures cut { IfErr result (λ fault. (text : List ℕ) × IsLog world.now.parts text × AppendsCut fault (K.held out.old) (K.held out.new) text) }
+    ensures caused { IsCaused (result ≡ Err IoFault.Failed) (K.faults out.old) (K.faults out.new)
+        (K.never_fails out.old) (K.never_fails out.new) }
+{
+    world.is_replayed();
+    match world.recorded() {
+        Some(trace) => write_trace(alloc, world, trace, out),
+        None => Err(IoFault::NoMemory),
+    }
 }

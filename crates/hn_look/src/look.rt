@@ -2,6 +2,7 @@
 
 ghost use Rattle.std.specs.Prelude.{◌≡◌, ◌⊎◌, ℕ, List, Err, IfOk};
 ghost use Rattle.hn_io.specs.Faults.{IsCaused};
+ghost use Rattle.hn_world.specs.SeenWorld.{world_parts};
 ghost use Rattle.hn_look.specs.Look.{Sees, SeesOf, EndsRefused, IsLook, MayStarve, Looked};
 
 use crate::last_line::refusal_of;
@@ -17,7 +18,7 @@ use std::alloc::Global;
 
 /// Looks at a world in the way of a form. Answers the status.
 fn see<K: Sink>(alloc: Global, form: &Form, world: &World, out: &mut K) -> Result<u8, IoFault>
-    ensures looked { Looked (MayStarve form.now) (Sees form.now world.now) result (K.held out.old) (K.held out.new) }
+    ensures looked { Looked (MayStarve form.now) (Sees form.now world.now.parts) result (K.held out.old) (K.held out.new) }
     ensures statuses { IfOk result (λ status. (status ≡ 0) ⊎ (status ≡ 2)) }
     ensures caused { IsCaused (result ≡ Err IoFault.Failed) (K.faults out.old) (K.faults out.new)
         (K.never_fails out.old) (K.never_fails out.new) }
@@ -40,7 +41,7 @@ fn see_any<K: Sink>(
     world: &Option<World>,
     out: &mut K,
 ) -> Result<u8, IoFault>
-    ensures looked { Looked (MayStarve form.now) (SeesOf (Sees form.now) world.now) result (K.held out.old) (K.held out.new) }
+    ensures looked { Looked (MayStarve form.now) (SeesOf (Sees form.now) (world_parts world.now)) result (K.held out.old) (K.held out.new) }
     ensures statuses { IfOk result (λ status. (status ≡ 0) ⊎ (status ≡ 2)) }
     ensures caused { IsCaused (result ≡ Err IoFault.Failed) (K.faults out.old) (K.faults out.new)
         (K.never_fails out.old) (K.never_fails out.new) }
@@ -62,7 +63,7 @@ pub(crate) fn look<K: Sink>(
 ) -> Result<u8, IoFault>
     requires ended { (played.now.status ≡ 0) ⊎ (played.now.status ≡ 2) }
     requires refused { played.now.status ≡ 2 → (line : List ℕ) × EndsRefused transcript.now line }
-    ensures looked { Looked (MayStarve form.now) (IsLook (Sees form.now) played.now.status played.now.world transcript.now) result (K.held out.old) (K.held out.new) }
+    ensures looked { Looked (MayStarve form.now) (IsLook (Sees form.now) played.now.status (world_parts played.now.world) transcript.now) result (K.held out.old) (K.held out.new) }
     ensures statuses { IfOk result (λ status. (status ≡ 0) ⊎ (status ≡ 2)) }
     ensures caused { IsCaused (result ≡ Err IoFault.Failed) (K.faults out.old) (K.faults out.new)
         (K.never_fails out.old) (K.never_fails out.new) }

@@ -44,7 +44,7 @@ pub(crate) fn write_table<K: Sink>(
     world: &World,
     out: &mut K,
 ) -> Result<u8, IoFault>
-    ensures looked { Looked Unit (SeesTable (name_text name.now) world.now) result (K.held out.old) (K.held out.new) }
+    ensures looked { Looked Unit (SeesTable (name_text name.now) world.now.parts) result (K.held out.old) (K.held out.new) }
     ensures statuses { IfOk result (λ status. (status ≡ 0) ⊎ (status ≡ 2)) }
     ensures caused { IsCaused (result ≡ Err IoFault.Failed) (K.faults out.old) (K.faults out.new)
         (K.never_fails out.old) (K.never_fails out.new) }
@@ -65,7 +65,7 @@ pub(crate) fn write_why<K: Sink>(
     world: &World,
     out: &mut K,
 ) -> Result<u8, IoFault>
-    ensures looked { Looked Unit (SeesWhy (name_text name.now) world.now) result (K.held out.old) (K.held out.new) }
+    ensures looked { Looked Unit (SeesWhy (name_text name.now) world.now.parts) result (K.held out.old) (K.held out.new) }
     ensures statuses { IfOk result (λ status. (status ≡ 0) ⊎ (status ≡ 2)) }
     ensures caused { IsCaused (result ≡ Err IoFault.Failed) (K.faults out.old) (K.faults out.new)
         (K.never_fails out.old) (K.never_fails out.new) }
@@ -87,7 +87,7 @@ pub(crate) fn write_calm<K: Sink>(
     world: &World,
     out: &mut K,
 ) -> Result<u8, IoFault>
-    ensures looked { Looked Unit (SeesCalm (name_text name.now) world.now) result (K.held out.old) (K.held out.new) }
+    ensures looked { Looked Unit (SeesCalm (name_text name.now) world.now.parts) result (K.held out.old) (K.held out.new) }
     ensures statuses { IfOk result (λ status. (status ≡ 0) ⊎ (status ≡ 2)) }
     ensures caused { IsCaused (result ≡ Err IoFault.Failed) (K.faults out.old) (K.faults out.new)
         (K.never_fails out.old) (K.never_fails out.new) }

@@ -13,12 +13,11 @@ use crate::status::{
 };
 use crate::words::Form;
 use hn_io::{MemSink, Sink, Source};
-use hn_lab::lab;
-use hn_wire::MemWire;
+use hn_lab::lab_by_mail;
 use std::alloc::Global;
 
-/// Reads a script, plays it by mail with its transcript in memory, and looks at the world that it led to. Answers the
-/// status.
+/// Reads a script, plays it by mail with its transcript in memory, and looks at the world that it led to. The trace is
+/// recorded for a log alone. Answers the status.
 fn play_and_look<S: Source, K: Sink>(alloc: Global, form: &Form, src: &mut S, out: &mut K) -> u8
     ensures look { result ≢ SOURCE_FAILED → IsLookRun (MayStarve form.now) (Sees form.now) (S.left src.old) result (K.held out.old) (K.held out.new) }
     ensures statuses { Contains (DONE ∷ REFUSED ∷ SOURCE_FAILED ∷ SINK_FAILED ∷ NO_MEMORY ∷ []) result }
@@ -30,8 +29,8 @@ fn play_and_look<S: Source, K: Sink>(alloc: Global, form: &Form, src: &mut S, ou
     ensures bounded { (read : List ℕ) × (length read ≤ 2 ^ 24 + 1) × Consumes (S.left src.old) (S.left src.new) read }
 {
     let mut transcript = MemSink::new(alloc, Vec::new(alloc));
-    let mut wire = MemWire::new(alloc, Vec::new(alloc));
-    let played = lab(alloc, src, &mut transcript, &mut wire, None);
+    let recorded = matches!(form, Form::Log);
+    let played = lab_by_mail(alloc, recorded, src, &mut transcript);
     if played.status != DONE && played.status != REFUSED {
         return played.status;
     }

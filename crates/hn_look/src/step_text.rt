@@ -27,8 +27,8 @@ pub(crate) struct Made {
 impl Made {
     /// What was made so far in a world. Never allocates.
     pub(crate) fn of(world: &World) -> Made
-        ensures copies { result.copies ≡ length world.now.copies }
-        ensures published { result.published ≡ length world.now.published }
+        ensures copies { result.copies ≡ length world.now.parts.copies }
+        ensures published { result.published ≡ length world.now.parts.published }
     {
         Made {
             copies: world.copies(),
@@ -47,7 +47,7 @@ pub fn sender_place(from: Addr) -> usize
 
 /// The router at which an event happened, in the world after it. Never allocates.
 fn actor(event: &WEvent, world: &World) -> Option<Name>
-    ensures { result ≡ actor event.now world.now }
+    ensures { result ≡ actor event.now world.now.parts }
 {
     match event {
         WEvent::Deliver { copy } => world.copy_info(*copy).map(|info| info.to),
@@ -92,8 +92,8 @@ impl fmt::Display for Place {
 
 /// Adds the line of the copy of this number.
 fn push_copy(text: &mut String, world: &World, number: u64) -> Result<(), AllocError>
-    ensures { OnOk result ((c : MailCopy) → copy_at world.now number ≡ Some c
-        → string_bytes text.new ≡ string_bytes text.old ++ copy_line world.now number c) }
+    ensures { OnOk result ((c : MailCopy) → copy_at world.now.parts number ≡ Some c
+        → string_bytes text.new ≡ string_bytes text.old ++ copy_line world.now.parts number c) }
 {
     let (Some(info), Some(bytes)) = (world.copy_info(number), world.copy_bytes(number)) else {
         return Ok(());
@@ -113,7 +113,7 @@ fn push_copy(text: &mut String, world: &World, number: u64) -> Result<(), AllocE
 
 /// Adds a line for each copy after the first so many.
 fn push_copies(text: &mut String, world: &World, first: u64) -> Result<(), AllocError>
-    ensures { OnOk result (string_bytes text.new ≡ string_bytes text.old ++ copy_lines world.now first (drop first world.now.copies)) }
+    ensures { OnOk result (string_bytes text.new ≡ string_bytes text.old ++ copy_lines world.now.parts first (drop first world.now.parts.copies)) }
 {
     let count = world.copies();
     let mut made = first;
@@ -182,7 +182,7 @@ pub(crate) fn push_step(
     before: Made,
     world: &World,
 ) -> Result<(), AllocError>
-    ensures { OnOk result (string_bytes text.new ≡ string_bytes text.old ++ step_text event.now notes.now before.copies before.published world.now) }
+    ensures { OnOk result (string_bytes text.new ≡ string_bytes text.old ++ step_text event.now notes.now before.copies before.published world.now.parts) }
 {
     let moment = world.moment();
     write!(text, "{moment} ")?;

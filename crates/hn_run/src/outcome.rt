@@ -1,4 +1,5 @@
 ghost use Rattle.std.specs.Prelude.{◌≡◌, None, IfSome};
+ghost use Rattle.hn_world.specs.SeenWorld.{world_parts};
 ghost use Rattle.hn_world.specs.Replay.{IsReplayed, Always, Throughout};
 ghost use Rattle.hn_world.specs.Authentic.{AuthenticUnlessInjected};
 ghost use Rattle.hn_world.specs.Leaves.{EqualHashesAgree};
@@ -64,18 +65,18 @@ impl Outcome {
 
     /// What a play came to. Its world is the replay of its trace, so the laws of such worlds hold of it. Never allocates.
     pub(crate) fn of_play(played: Played) -> Outcome
-        requires replayed { IfSome played.world IsReplayed }
+        requires replayed { IfSome (world_parts played.world) IsReplayed }
         ensures status { result.status ≡ played.status }
         ensures world { result.world ≡ played.world }
         ensures not_served { result.served ≡ None }
-        ensures headline { IfSome result.world (Always EqualHashesAgree) }
-        ensures settled { IfSome result.world (Always SettledAreSound) }
-        ensures elected { IfSome result.world (Always SettledElectAlike) }
-        ensures told { IfSome result.world (Always HostsAreToldApart) }
-        ensures stays { IfSome result.world (Throughout QuietStays) }
-        ensures turns { IfSome result.world (Always CalmStaysInTurns) }
-        ensures within_limits { IfSome result.world (Always AreWithinLimits) }
-        ensures authentic { IfSome result.world (Always AuthenticUnlessInjected) }
+        ensures headline { IfSome (world_parts result.world) (Always EqualHashesAgree) }
+        ensures settled { IfSome (world_parts result.world) (Always SettledAreSound) }
+        ensures elected { IfSome (world_parts result.world) (Always SettledElectAlike) }
+        ensures told { IfSome (world_parts result.world) (Always HostsAreToldApart) }
+        ensures stays { IfSome (world_parts result.world) (Throughout QuietStays) }
+        ensures turns { IfSome (world_parts result.world) (Always CalmStaysInTurns) }
+        ensures within_limits { IfSome (world_parts result.world) (Always AreWithinLimits) }
+        ensures authentic { IfSome (world_parts result.world) (Always AuthenticUnlessInjected) }
     {
         equal_hashes_always_agree();
         plainly_sound();

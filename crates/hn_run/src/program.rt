@@ -1,6 +1,7 @@
 ghost use Rattle.std.specs.Prelude.{◌≡◌, ◌≢◌, ◌↔◌, ◌+◌, ◌^◌, ◌≤◌, ◌⊎◌, ℕ, List, All, None, Some, map, length, Contains, IfSome, string_bytes};
 ghost use Rattle.std.specs.Io.KnownBytes.{Consumes};
 ghost use Rattle.hn_io.specs.Faults.{IsCaused};
+ghost use Rattle.hn_world.specs.SeenWorld.{world_parts};
 ghost use Rattle.hn_world.specs.Replay.{IsReplayed, Always, Throughout};
 ghost use Rattle.hn_world.specs.Authentic.{AuthenticUnlessInjected};
 ghost use Rattle.hn_world.specs.Leaves.{EqualHashesAgree};
@@ -66,12 +67,12 @@ pub fn run<S: Source, K: Sink, W: Wire, C: Clock>(
     // what waits is what the play or the turns could have left.
     ensures only { TranscriptIsUnique }
     ensures lab { IsFormOf Form.Lab (map string_bytes words.now) → result.status ≢ SOURCE_FAILED
-        → IsLabTranscript Mail (S.left src.old) result.status result.world (K.held out.old) (K.held out.new) }
+        → IsLabTranscript Mail (S.left src.old) result.status (world_parts result.world) (K.held out.old) (K.held out.new) }
     ensures udp { (base : ℕ) → IsFormOf (Form.Udp base) (map string_bytes words.now) → result.status ≢ SOURCE_FAILED
-        → IsLabRun (Ports base (W.waiting wire.old)) (Ports base (W.waiting wire.new)) (S.left src.old) result.status result.world (K.held out.old) (K.held out.new) }
+        → IsLabRun (Ports base (W.waiting wire.old)) (Ports base (W.waiting wire.new)) (S.left src.old) result.status (world_parts result.world) (K.held out.old) (K.held out.new) }
     ensures udp_leaves { (base : ℕ) (waiting : List Datagram) → IsFormOf (Form.Udp base) (map string_bytes words.now)
         → W.waiting wire.old ≡ Some waiting → result.status ≡ WIRE_FAILED
-        → LeavesOnWire base waiting (S.left src.old) result.world (W.waiting wire.new) }
+        → LeavesOnWire base waiting (S.left src.old) (world_parts result.world) (W.waiting wire.new) }
     ensures node { (call : NodeCall) → IsFormOf (Form.Node call) (map string_bytes words.now) → result.status ≢ SOURCE_FAILED
         → IsNodeRun (plain_call call) (S.left src.old) result.status result.served (record { waiting = W.waiting wire.old; readings = C.readings clock.old })
         (record { waiting = W.waiting wire.new; readings = C.readings clock.new }) (K.held out.old) (K.held out.new) }
@@ -80,7 +81,7 @@ pub fn run<S: Source, K: Sink, W: Wire, C: Clock>(
     ensures watch { IsFormOf Form.Watch (map string_bytes words.now) → result.status ≢ SOURCE_FAILED
         → IsWatchRun (S.left src.old) result.status (K.held out.old) (K.held out.new) }
     ensures soak { (n seed : ℕ) → IsFormOf (Form.Soak n seed) (map string_bytes words.now)
-        → IsSoakRun n seed result.status result.world (K.held out.old) (K.held out.new) }
+        → IsSoakRun n seed result.status (world_parts result.world) (K.held out.old) (K.held out.new) }
 
     // What a form does not use stays as it is, and what it does not make is not there.
     ensures unused { (form : Form) → IsFormOf form (map string_bytes words.now)
@@ -89,22 +90,22 @@ pub fn run<S: Source, K: Sink, W: Wire, C: Clock>(
     // The world is the replay of its trace. At each moment of its past two routers with equal hashes have equal leaves, or
     // a collision exists; a running router that is settled and quiet is sound; on each link of one that is settled the
     // elections are equal; and on different links of one that is settled and quiet hosts are told no prefixes that overlap.
-    ensures replayed { IfSome result.world IsReplayed }
-    ensures headline { IfSome result.world (Always EqualHashesAgree) }
-    ensures settled { IfSome result.world (Always SettledAreSound) }
-    ensures elected { IfSome result.world (Always SettledElectAlike) }
-    ensures told { IfSome result.world (Always HostsAreToldApart) }
+    ensures replayed { IfSome (world_parts result.world) IsReplayed }
+    ensures headline { IfSome (world_parts result.world) (Always EqualHashesAgree) }
+    ensures settled { IfSome (world_parts result.world) (Always SettledAreSound) }
+    ensures elected { IfSome (world_parts result.world) (Always SettledElectAlike) }
+    ensures told { IfSome (world_parts result.world) (Always HostsAreToldApart) }
 
     // Over time that passes, ticks that nothing disturbs, and deliveries of what its own routers say, a settled and quiet router
     // stays so, with the same assignments. A calm home stays so from each moment of that past on, while its routers tick in turns
     // without loss, until a lifetime ends that it sees, or its node data are to be published again.
-    ensures stays { IfSome result.world (Throughout QuietStays) }
-    ensures turns { IfSome result.world (Always CalmStaysInTurns) }
+    ensures stays { IfSome (world_parts result.world) (Throughout QuietStays) }
+    ensures turns { IfSome (world_parts result.world) (Always CalmStaysInTurns) }
 
     // At each moment of its past tables, lists and datagrams are within the limits of its version; and until something is
     // injected, what routers hold of other nodes was published, or two texts that were published collide.
-    ensures within_limits { IfSome result.world (Always AreWithinLimits) }
-    ensures authentic { IfSome result.world (Always AuthenticUnlessInjected) }
+    ensures within_limits { IfSome (world_parts result.world) (Always AreWithinLimits) }
+    ensures authentic { IfSome (world_parts result.world) (Always AuthenticUnlessInjected) }
 
     // A router that was served is within the limits of version 1, and each datagram that it took or sent fits one.
     ensures served_within { IfSome result.served (λ s. IsWithinLimits One s.router × All IsBounded s.log) }

@@ -1,5 +1,6 @@
 ghost use Rattle.std.specs.Prelude.{◌≡◌, ◌≢◌, ◌≤◌, [], ◌∷◌, None, Contains, IfSome};
 ghost use Rattle.hn_io.specs.Faults.{IsCaused};
+ghost use Rattle.hn_world.specs.SeenWorld.{world_parts};
 ghost use Rattle.hn_world.specs.Replay.{IsReplayed};
 ghost use Rattle.hn_run.specs.Outcome.{IsSoakRun};
 
@@ -17,9 +18,9 @@ use std::alloc::Global;
 pub fn soak<K: Sink, W: Wire>(alloc: Global, n: u32, seed: u64, out: &mut K, wire: &mut W) -> Played
     requires at_least { 2 ≤ n }
     requires at_most { n ≤ 32 }
-    ensures soak { IsSoakRun n seed result.status result.world (K.held out.old) (K.held out.new) }
+    ensures soak { IsSoakRun n seed result.status (world_parts result.world) (K.held out.old) (K.held out.new) }
     ensures no_world { result.status ≡ NO_MEMORY → result.world ≡ None }
-    ensures replayed { IfSome result.world IsReplayed }
+    ensures replayed { IfSome (world_parts result.world) IsReplayed }
     ensures statuses { Contains (DONE ∷ REFUSED ∷ SINK_FAILED ∷ NO_MEMORY ∷ []) result.status }
     ensures caused { IsCaused (result.status ≡ SINK_FAILED) (K.faults out.old) (K.faults out.new)
         (K.never_fails out.old) (K.never_fails out.new) }

@@ -74,8 +74,8 @@ fn deliver<D: Draw>(
     copy: u64,
     draw: &mut D,
 ) -> Result<(), WorldFault>
-    ensures ok { OnOk result ((notes : List Note) × IsStep (WEvent.Deliver copy) notes (D.words draw.old) (D.words draw.new) world.old world.new) }
-    ensures refused { (code : ℕ) → result ≡ Err (WorldFault.Refused code) → refusal world.old (WEvent.Deliver copy) ≡ Some code }
+    ensures ok { OnOk result ((notes : List Note) × IsStep (WEvent.Deliver copy) notes (D.words draw.old) (D.words draw.new) world.old.parts world.new.parts) }
+    ensures refused { (code : ℕ) → result ≡ Err (WorldFault.Refused code) → refusal world.old.parts (WEvent.Deliver copy) ≡ Some code }
     ensures err { OnErr result (world.new ≡ world.old) }
     ensures undrawn { (code : ℕ) → result ≡ Err (WorldFault.Refused code) → draw.new ≡ draw.old }
 {
@@ -94,12 +94,12 @@ fn deliver_after<D: Draw>(
     copies: u64,
     draw: &mut D,
 ) -> Result<(), WorldFault>
-    ensures ok { OnOk result ((ts : List Traced) × CopiesAreDelivered (copies + 1) ts None world.old world.new × Took (D.words draw.old) (words_of_trace ts) (D.words draw.new)) }
+    ensures ok { OnOk result ((ts : List Traced) × CopiesAreDelivered (copies + 1) ts None world.old.parts world.new.parts × Took (D.words draw.old) (words_of_trace ts) (D.words draw.new)) }
     ensures refused { (code : ℕ) → result ≡ Err (WorldFault.Refused code)
-        → (ts : List Traced) × (next : WEvent) × CopiesAreDelivered (copies + 1) ts (Some next) world.old world.new
-        × (refusal world.new next ≡ Some code) × Took (D.words draw.old) (words_of_trace ts) (D.words draw.new) }
+        → (ts : List Traced) × (next : WEvent) × CopiesAreDelivered (copies + 1) ts (Some next) world.old.parts world.new.parts
+        × (refusal world.new.parts next ≡ Some code) × Took (D.words draw.old) (words_of_trace ts) (D.words draw.new) }
     ensures starved { result ≡ Err WorldFault.NoMemory
-        → (ts : List Traced) × (next : WEvent) × CopiesAreDelivered (copies + 1) ts (Some next) world.old world.new }
+        → (ts : List Traced) × (next : WEvent) × CopiesAreDelivered (copies + 1) ts (Some next) world.old.parts world.new.parts }
 {
     words_join();
     each_event_is_entered();
@@ -114,14 +114,14 @@ fn deliver_after<D: Draw>(
 
 /// It cannot be that an exchange that has a question does not end. Changes nothing: call it to know its law.
 fn has_an_end(world: &World, a: &Name, b: &Name)
-    ensures { unless_exchange a.now b.now world.now ≡ None → HasAnEnd a.now b.now world.now }
+    ensures { unless_exchange a.now b.now world.now.parts ≡ None → HasAnEnd a.now b.now world.now.parts }
 {
     exchange_exists();
     world.is_replayed();
 }
 
 impl Exchange for World {
-    ghost parts = { λ w. w };
+    ghost parts = { λ w. w.parts };
 
     fn sync<D: Draw>(
         &mut self,

@@ -90,7 +90,7 @@ pub(crate) fn joint_of(a: &Member, b: &Member) -> Option<(EpId, EpId)>
 /// The code with which an exchange, in which b asks a, is refused before anything happens; `None` if and only if it begins.
 /// Never allocates.
 pub fn unless_exchange(world: &World, a: &Name, b: &Name) -> Option<u8>
-    ensures { result ≡ unless_exchange a.now b.now world.now }
+    ensures { result ≡ unless_exchange a.now b.now world.now.parts }
 {
     if let Some(code) = world.unless_both_run(a, b) {
         return Some(code);

@@ -15,7 +15,7 @@ use std::alloc::Global;
 
 /// The place of the router of a name, in order of definition.
 fn place_of(world: &World, name: &Name) -> Option<usize>
-    ensures { result ≡ router_place (name_text name.now) world.now }
+    ensures { result ≡ router_place (name_text name.now) world.now.parts }
 {
     let members = world.members();
     members
@@ -52,8 +52,8 @@ fn request(alloc: Global, node: NodeId, endpoint: EpId) -> Result<Bytes, NoMemor
 
 /// The event with which b asks a for the network state.
 pub(crate) fn question(alloc: Global, world: &World, a: &Name, b: &Name) -> Result<WEvent, NoMemory>
-    requires { unless_exchange a.now b.now world.now ≡ None }
-    ensures { IfOk result (IsQuestion a.now b.now world.now) }
+    requires { unless_exchange a.now b.now world.now.parts ≡ None }
+    ensures { IfOk result (IsQuestion a.now b.now world.now.parts) }
 {
     always_sound();
     world.is_replayed();

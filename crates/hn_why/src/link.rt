@@ -14,7 +14,7 @@ impl LinkName {
 
     /// Of the link at a place in order of definition. Never allocates.
     pub(crate) fn at(world: &World, place: usize) -> LinkName
-        ensures { result.name ≡ slice_get world.now.links place }
+        ensures { result.name ≡ slice_get world.now.parts.links place }
     {
         LinkName {
             name: world.link_at(place),

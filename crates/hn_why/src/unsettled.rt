@@ -19,7 +19,7 @@ pub(crate) fn push_said(
     world: &World,
     why: &Unsettled,
 ) -> Result<(), AllocError>
-    ensures { OnOk result (string_bytes text.new ≡ string_bytes text.old ++ (unsettled_words world.now why.now ++ 10 ∷ unsettled_sentence (name_text name.now) world.now why.now)) }
+    ensures { OnOk result (string_bytes text.new ≡ string_bytes text.old ++ (unsettled_words world.now.parts why.now ++ 10 ∷ unsettled_sentence (name_text name.now) world.now.parts why.now)) }
 {
     match *why {
         Unsettled::Unknown { id } => say(

@@ -35,7 +35,7 @@ fn unsettled_text(
     world: &World,
     why: &Unsettled,
 ) -> Result<String, NoMemory>
-    ensures { IfOk result (λ text. string_bytes text ≡ unsettled_text (name_text name.now) world.now why.now) }
+    ensures { IfOk result (λ text. string_bytes text ≡ unsettled_text (name_text name.now) world.now.parts why.now) }
 {
     let mut text = format!(in alloc; "why {name} settled=no cause=")?;
     unsettled::push_said(&mut text, name, world, why)?;
@@ -49,8 +49,8 @@ fn unsettled_text(
 ///
 /// Out of memory.
 pub fn why_text(alloc: Global, name: &Name, world: &World) -> Result<String, NoMemory>
-    requires { IsTrue (runs (name_text name.now) world.now) }
-    ensures { IfOk result (λ text. IsWhy (name_text name.now) world.now (string_bytes text)) }
+    requires { IsTrue (runs (name_text name.now) world.now.parts) }
+    ensures { IfOk result (λ text. IsWhy (name_text name.now) world.now.parts (string_bytes text)) }
 {
     match world.unsettled(alloc, name)? {
         Some(why) => unsettled_text(alloc, name, world, &why),

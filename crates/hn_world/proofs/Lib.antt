@@ -5,6 +5,7 @@ pub mod EqualHashes
 pub mod AttachedEndpoints
 pub mod OneAgreement
 pub mod OneMoreEvent
+mod KeptTraces
 pub mod WaitingCopies
 pub mod OneStep
 pub mod ElementAtPlace

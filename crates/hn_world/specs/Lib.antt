@@ -11,6 +11,7 @@ pub mod Asked
 pub mod Step
 pub mod Planned
 pub mod Replay
+pub mod SeenWorld
 pub mod Existing
 pub mod Leaves
 pub mod Within

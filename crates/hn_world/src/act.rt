@@ -1,6 +1,6 @@
 //! Events at a router of the world.
 
-ghost use Rattle.std.specs.Prelude.{◌≡◌, ◌-◌, ◌<◌, [], nat_lt, length, IfOk, IfSome, OnOk, OnErr, IsSome, None, Some};
+ghost use Rattle.std.specs.Prelude.{◌≡◌, ◌-◌, ◌<◌, ◌++◌, ◌∷◌, [], nat_lt, length, IfOk, IfSome, OnOk, OnErr, IsSome, None, Some};
 ghost use Rattle.hn_base.specs.Name.{name_text};
 ghost use Rattle.std.specs.List.{slice_get};
 ghost use Rattle.hn_router.specs.Act.{plain_event};
@@ -13,14 +13,14 @@ ghost use Rattle.hn_world.specs.Replay.{IsSoundWorld};
 ghost use Rattle.hn_world.specs.Routed.{routed, named_by, place_by};
 ghost use Rattle.hn_world.specs.Step.{Step, IsStep, IsWorldEventInRange};
 
-use crate::event::WEvent;
+use crate::event::{Effect, Traced, WEvent};
 use crate::parts::Parts;
-use crate::plain_events::{enter, without_words};
+use crate::plain_events::enter;
 use crate::routed::Beside;
 use hn_base::{Name, NoMemory, Sequence};
 use hn_io::Draw;
 use hn_router::{Event, event_in_range};
-use hn_rules::{Note, Passing};
+use hn_rules::Passing;
 use std::alloc::Global;
 
 impl Parts {
@@ -40,17 +40,19 @@ impl Parts {
         name: Name,
         place: usize,
         draw: &mut D,
-    ) -> Result<Sequence<Note>, NoMemory>
+    ) -> Effect
         requires placed { router_place (name_text name) self.old ≡ Some place }
         requires undue { (m : Member) → slice_get self.old.members place ≡ Some m → self.old.moment < m.router.due }
         requires accepted { refusal self.old (event.Tick name) ≡ None }
         requires sound { IsSoundWorld self.old }
-        ensures ok { IfOk result (λ notes. IsStep (event.Tick name) notes (D.words draw.old) (D.words draw.new) self.old self.new) }
-        ensures err { OnErr result (self.new ≡ self.old) }
+        ensures ok { IsStep (event.Tick name) result.notes (D.words draw.old) (D.words draw.new) self.old self.new }
+        ensures traced { self.new.trace ≡ self.old.trace ++ result.traced ∷ [] }
     {
-        enter(&mut self.trace, without_words(alloc, WEvent::Tick { name }))?;
         self.members.pass(place, self.moment.get());
-        Ok(Sequence::new(alloc))
+        Effect {
+            notes: Sequence::new(alloc),
+            traced: enter(&mut self.trace, alloc, WEvent::Tick { name }),
+        }
     }
 
     /// An event happens at the router of the name in it, which is at this place.
@@ -60,13 +62,14 @@ impl Parts {
         event: WEvent,
         place: usize,
         draw: &mut D,
-    ) -> Result<Sequence<Note>, NoMemory>
+    ) -> Result<Effect, NoMemory>
         requires routed { IsSome (routed event) }
         requires placed { place_by (named_by event) self.old ≡ Some place }
         requires accepted { refusal self.old event ≡ None }
         requires in_range { IsWorldEventInRange event }
         requires sound { IsSoundWorld self.old }
-        ensures ok { IfOk result (λ notes. IsStep event notes (D.words draw.old) (D.words draw.new) self.old self.new) }
+        ensures ok { IfOk result (λ happened. IsStep event happened.notes (D.words draw.old) (D.words draw.new) self.old self.new) }
+        ensures traced { IfOk result (λ happened. self.new.trace ≡ self.old.trace ++ happened.traced ∷ []) }
         ensures err { OnErr result (self.new ≡ self.old) }
     {
         let Some((_, own)) = event.routed() else {
@@ -95,22 +98,17 @@ impl Parts {
         copy: u64,
         place: usize,
         passing: Passing,
-    ) -> Result<(), NoMemory>
+    ) -> Result<Traced, NoMemory>
         requires accepted { refusal self.old (event.Deliver copy) ≡ None }
         requires passes { LetsCopyPass copy place self.old passing }
         ensures ok { OnOk result (Step (record { event = event.Deliver copy; words = [] }) [] self.old self.new) }
+        ensures traced { IfOk result (λ traced. self.new.trace ≡ self.old.trace ++ traced ∷ []) }
         ensures err { OnErr result (self.new ≡ self.old) }
     {
         let at = (copy - 1) as usize;
-        let injected = self.trace.injected_with(&WEvent::Deliver { copy });
-        self.trace.items.reserve(1)?;
         self.members.let_pass(place, passing, self.moment.get())?;
-        self.trace
-            .items
-            .push_reserved(without_words(alloc, WEvent::Deliver { copy }));
-        self.trace.injected = injected;
         self.copies.take(at);
-        Ok(())
+        Ok(enter(&mut self.trace, alloc, WEvent::Deliver { copy }))
     }
 
     /// A copy is delivered to its endpoint.
@@ -119,10 +117,11 @@ impl Parts {
         alloc: Global,
         copy: u64,
         draw: &mut D,
-    ) -> Result<Sequence<Note>, NoMemory>
+    ) -> Result<Effect, NoMemory>
         requires accepted { refusal self.old (event.Deliver copy) ≡ None }
         requires sound { IsSoundWorld self.old }
-        ensures ok { IfOk result (λ notes. IsStep (event.Deliver copy) notes (D.words draw.old) (D.words draw.new) self.old self.new) }
+        ensures ok { IfOk result (λ happened. IsStep (event.Deliver copy) happened.notes (D.words draw.old) (D.words draw.new) self.old self.new) }
+        ensures traced { IfOk result (λ happened. self.new.trace ≡ self.old.trace ++ happened.traced ∷ []) }
         ensures err { OnErr result (self.new ≡ self.old) }
     {
         let Some(mail) = self.copy_at(copy) else {
@@ -136,13 +135,14 @@ impl Parts {
         };
         let place = mail.to.place;
         if let Some(passing) = self.passing(place, &arrival) {
-            self.pass_copy(alloc, copy, place, passing)?;
-            return Ok(Sequence::new(alloc));
+            let traced = self.pass_copy(alloc, copy, place, passing)?;
+            let notes = Sequence::new(alloc);
+            return Ok(Effect { notes, traced });
         }
         let plan = self.plan(alloc, place, &arrival, draw)?;
         let event = WEvent::Deliver { copy };
-        let notes = self.finish(alloc, event, Beside::Nothing, place, plan)?;
+        let happened = self.finish(alloc, event, Beside::Nothing, place, plan)?;
         self.copies.take((copy - 1) as usize);
-        Ok(notes)
+        Ok(happened)
     }
 }

@@ -19,7 +19,7 @@ use std::alloc::Global;
 impl World {
     /// It cannot be that the routers of two names agree in no way. Changes nothing: call it to know its law.
     fn agree_somehow(&self, a: &Name, b: &Name)
-        ensures { AgreeSomehow a.now b.now self.now }
+        ensures { AgreeSomehow a.now b.now self.now.parts }
     {
         agreement_exists();
         self.is_replayed();
@@ -33,13 +33,13 @@ impl World {
     ///
     /// Out of memory.
     pub fn compare(&self, alloc: Global, a: &Name, b: &Name) -> Result<Agreement, NoMemory>
-        requires left { IsSome (member_named (name_text a.now) self.now) }
-        requires right { IsSome (member_named (name_text b.now) self.now) }
+        requires left { IsSome (member_named (name_text a.now) self.now.parts) }
+        requires right { IsSome (member_named (name_text b.now) self.now.parts) }
         ensures compared { IfOk result (λ agreement. (m n : Member)
-            → member_named (name_text a.now) self.now ≡ Some m
-            → member_named (name_text b.now) self.now ≡ Some n
+            → member_named (name_text a.now) self.now.parts ≡ Some m
+            → member_named (name_text b.now) self.now.parts ≡ Some n
             → Agrees (leaves_of m.router) (leaves_of n.router) agreement) }
-        ensures exists { AgreeSomehow a.now b.now self.now }
+        ensures exists { AgreeSomehow a.now b.now self.now.parts }
     {
         self.agree_somehow(a, b);
         let (Some(left), Some(right)) = (self.router(a), self.router(b)) else {
@@ -52,21 +52,21 @@ impl World {
 
     /// How many copies were made. Never allocates.
     pub fn copies(&self) -> u64
-        ensures { result ≡ length self.now.copies }
+        ensures { result ≡ length self.now.parts.copies }
     {
         self.parts.copies.len() as u64
     }
 
     /// How many copies wait. Never allocates.
     pub fn waiting(&self) -> u64
-        ensures { result ≡ count_by (λ c. c.waiting) self.now.copies }
+        ensures { result ≡ count_by (λ c. c.waiting) self.now.parts.copies }
     {
         self.parts.copies.waiting() as u64
     }
 
     /// The least number of a copy that waits; `None` if and only if none waits. Never allocates.
     pub fn next_waiting(&self) -> Option<u64>
-        ensures { result ≡ option_map suc (first_waiting self.now.copies) }
+        ensures { result ≡ option_map suc (first_waiting self.now.parts.copies) }
     {
         let place = self.parts.copies.first_waiting()?;
         Some(place as u64 + 1)
@@ -74,7 +74,7 @@ impl World {
 
     /// The bytes of a copy; `None` if and only if there is no copy of that number. Never allocates.
     pub fn copy_bytes(&self, copy: u64) -> Option<&[u8]>
-        ensures { option_map (λ b. b.now) result ≡ option_map (λ c. c.bytes) (copy_at self.now copy) }
+        ensures { option_map (λ b. b.now) result ≡ option_map (λ c. c.bytes) (copy_at self.now.parts copy) }
     {
         let mail = self.parts.copy_at(copy)?;
         Some(mail.bytes.get().as_slice())
@@ -83,8 +83,8 @@ impl World {
     /// Where a copy goes, from where, and whether it waits; `None` if and only if there is no copy of that number. Never
     /// allocates.
     pub fn copy_info(&self, copy: u64) -> Option<CopyInfo>
-        ensures info { HasInfo self.now (copy_at self.now copy) result }
-        ensures none { (result ≡ None) ↔ (copy_at self.now copy ≡ None) }
+        ensures info { HasInfo self.now.parts (copy_at self.now.parts copy) result }
+        ensures none { (result ≡ None) ↔ (copy_at self.now.parts copy ≡ None) }
     {
         copies_have_receivers();
         let mail = self.parts.copy_at(copy)?;

@@ -2,6 +2,7 @@ use hn_base::{
     Addr, Bytes, Caps, EpId, LinkLength, Moment, Name, NoMemory, NodeId, Sequence, Words,
 };
 use hn_prefix::Prefix;
+use hn_rules::Note;
 use std::error::Error;
 use std::fmt;
 
@@ -95,6 +96,13 @@ pub enum WEvent {
 pub struct Traced {
     pub event: WEvent,
     pub words: Words,
+}
+
+/// What came of an event: what routers noted, and its entry in the trace.
+#[derive(Drop)]
+pub(crate) struct Effect {
+    pub notes: Sequence<Note>,
+    pub traced: Traced,
 }
 
 /// Why an event did not happen.

@@ -12,40 +12,36 @@ ghost use Rattle.hn_world.specs.Replay.{IsSoundWorld};
 ghost use Rattle.hn_world.specs.Step.{acted, entered};
 
 use crate::copies::Copies;
-use crate::event::{Traced, WEvent};
+use crate::event::{Effect, Traced, WEvent};
 use crate::mail::copies_of;
 use crate::member::Members;
 use crate::parts::Parts;
 use crate::routed::Beside;
-use hn_base::{NoMemory, Sequence};
+use crate::trace::Trace;
+use hn_base::NoMemory;
 use hn_io::Draw;
 use hn_router::{Event, Plan};
-use hn_rules::{Done, Note, Publication};
+use hn_rules::{Done, Publication};
 use std::alloc::Global;
 
-/// Makes room for what the router at a place would publish and for an event, and adds the copies of what it would send; or
-/// nothing.
+/// Makes room for what the router at a place would publish, and adds the copies of what it would send; or nothing.
 fn make_room(
     alloc: Global,
     members: &Members,
     place: usize,
     plan: &Plan,
     published: &mut Vec<Publication>,
-    trace: &mut Vec<Traced>,
     copies: &mut Copies,
 ) -> Result<(), NoMemory>
     requires there { place < length members.now }
     requires ports { All (λ m. ArePorts m.router.ports) members.now }
     ensures published { published.new.items ≡ published.old.items }
-    ensures trace { trace.new.items ≡ trace.old.items }
     ensures publications_fit { OnOk result (vec_len published.new + length plan.now.done.published ≤ vec_capacity published.new) }
-    ensures event_fits { OnOk result (vec_len trace.new < vec_capacity trace.new) }
     ensures copies { OnOk result ((m : Member) → slice_get members.now place ≡ Some m
         → copies.new ≡ copies.old ++ copies_of members.now place m plan.now.done.sends) }
     ensures err { OnErr result (copies.new ≡ copies.old) }
 {
     published.reserve(plan.done().published.len())?;
-    trace.reserve(1)?;
     let member = members.at(place);
     let sends = plan.done().sends.as_slice();
     let mut more = copies_of(alloc, members.as_slice(), place, member, sends)?;
@@ -59,21 +55,18 @@ fn with_room(
     place: usize,
     plan: Plan,
     published: &mut Vec<Publication>,
-    trace: &mut Vec<Traced>,
     copies: &mut Copies,
 ) -> Result<Plan, NoMemory>
     requires there { place < length members.now }
     requires ports { All (λ m. ArePorts m.router.ports) members.now }
     ensures plan { IfOk result (λ planned. planned ≡ plan) }
     ensures published { published.new.items ≡ published.old.items }
-    ensures trace { trace.new.items ≡ trace.old.items }
     ensures publications_fit { OnOk result (vec_len published.new + length plan.done.published ≤ vec_capacity published.new) }
-    ensures event_fits { OnOk result (vec_len trace.new < vec_capacity trace.new) }
     ensures copies { OnOk result ((m : Member) → slice_get members.now place ≡ Some m
         → copies.new ≡ copies.old ++ copies_of members.now place m plan.done.sends) }
     ensures err { OnErr result (copies.new ≡ copies.old) }
 {
-    if let Err(error) = make_room(alloc, members, place, &plan, published, trace, copies) {
+    if let Err(error) = make_room(alloc, members, place, &plan, published, copies) {
         // An exit that drops a plan is dear to prove, and a call is not.
         drop(plan);
         return Err(error);
@@ -86,20 +79,20 @@ fn with_room(
 fn settle(
     members: &mut Members,
     published: &mut Vec<Publication>,
-    trace: &mut Vec<Traced>,
+    trace: &mut Trace,
     event: WEvent,
     beside: Beside,
     place: usize,
     plan: Plan,
-) -> Sequence<Note>
+) -> Effect
     requires there { place < length members.old }
     requires publications_fit { vec_len published.old + length plan.done.published ≤ vec_capacity published.old }
-    requires event_fits { vec_len trace.old < vec_capacity trace.old }
     ensures members { (m : Member) → slice_get members.old place ≡ Some m
         → members.new ≡ slice_set members.old place (with_beside beside (record m { router = plan.state })) }
     ensures published { published.new.items ≡ published.old.items ++ plan.done.published }
-    ensures trace { trace.new.items ≡ trace.old.items ++ record { event = event; words = plan.done.words } ∷ [] }
-    ensures notes { result ≡ plan.done.notes }
+    ensures trace { trace.new ≡ trace.old ++ result.traced ∷ [] }
+    ensures entry { result.traced ≡ record { event = event; words = plan.done.words } }
+    ensures notes { result.notes ≡ plan.done.notes }
 {
     let Done {
         notes,
@@ -108,8 +101,9 @@ fn settle(
         ..
     } = members.commit(place, plan, beside);
     published.append(&mut more.into_vec()).unwrap();
-    trace.push_reserved(Traced { event, words });
-    notes
+    let traced = Traced { event, words };
+    trace.enter(&traced);
+    Effect { notes, traced }
 }
 
 impl Parts {
@@ -137,34 +131,31 @@ impl Parts {
         beside: Beside,
         place: usize,
         plan: Plan,
-    ) -> Result<Sequence<Note>, NoMemory>
+    ) -> Result<Effect, NoMemory>
         requires there { place < length self.old.members }
         requires sound { IsSoundWorld self.old }
         ensures world { OnOk result ((m : Member) → slice_get self.old.members place ≡ Some m
             → self.new ≡ entered (record { event = event; words = plan.done.words }) (acted (with_beside beside) place m plan.state plan.done self.old)) }
-        ensures notes { IfOk result (λ notes. notes ≡ plan.done.notes) }
+        ensures traced { IfOk result (λ happened. self.new.trace ≡ self.old.trace ++ happened.traced ∷ []) }
+        ensures notes { IfOk result (λ happened. happened.notes ≡ plan.done.notes) }
         ensures err { OnErr result (self.new ≡ self.old) }
     {
-        let injected = self.trace.injected_with(&event);
         let plan = with_room(
             alloc,
             &self.members,
             place,
             plan,
             &mut self.published.items,
-            &mut self.trace.items,
             &mut self.copies,
         )?;
-        let notes = settle(
+        Ok(settle(
             &mut self.members,
             &mut self.published.items,
-            &mut self.trace.items,
+            &mut self.trace,
             event,
             beside,
             place,
             plan,
-        );
-        self.trace.injected = injected;
-        Ok(notes)
+        ))
     }
 }

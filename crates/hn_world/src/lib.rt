@@ -8,6 +8,7 @@ mod copies;
 mod event;
 mod existing;
 mod finish;
+mod kept;
 mod law;
 mod limits;
 mod links;

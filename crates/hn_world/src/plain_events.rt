@@ -18,43 +18,28 @@ use hn_router::Router;
 use hn_rules::{Present, Publication};
 use std::alloc::Global;
 
-/// An event that took no random words.
-pub(crate) fn without_words(alloc: Global, event: WEvent) -> Traced
-    ensures { result ≡ record { event = event; words = [] } }
+/// Enters an event that took no random words in the trace. Answers the entry.
+pub(crate) fn enter(trace: &mut Trace, alloc: Global, event: WEvent) -> Traced
+    ensures entry { result ≡ record { event = event; words = [] } }
+    ensures trace { trace.new ≡ trace.old ++ result ∷ [] }
 {
-    Traced {
+    let traced = Traced {
         event,
         words: Words::new(alloc),
-    }
+    };
+    trace.enter(&traced);
+    traced
 }
 
-/// Enters an event in the trace, or not.
-pub(crate) fn enter(trace: &mut Trace, traced: Traced) -> Result<(), NoMemory>
-    ensures trace { OnOk result (trace.new ≡ trace.old ++ traced ∷ []) }
-    ensures no_trace { OnErr result (trace.new ≡ trace.old) }
-{
-    let injected = trace.injected_with(&traced.event);
-    trace.items.push(traced)?;
-    trace.injected = injected;
-    Ok(())
-}
-
-/// Makes room for a router, a publication and an event; nothing is added.
-fn make_room(
-    members: &mut Vec<Member>,
-    published: &mut Vec<Publication>,
-    trace: &mut Vec<Traced>,
-) -> Result<(), NoMemory>
+/// Makes room for a router and a publication; nothing is added.
+fn make_room(members: &mut Vec<Member>, published: &mut Vec<Publication>) -> Result<(), NoMemory>
     ensures members { members.new.items ≡ members.old.items }
     ensures publications { published.new.items ≡ published.old.items }
-    ensures entries { trace.new.items ≡ trace.old.items }
     ensures member_fits { OnOk result (vec_len members.new < vec_capacity members.new) }
     ensures publication_fits { OnOk result (vec_len published.new < vec_capacity published.new) }
-    ensures entry_fits { OnOk result (vec_len trace.new < vec_capacity trace.new) }
 {
     members.reserve(1)?;
     published.reserve(1)?;
-    trace.reserve(1)?;
     Ok(())
 }
 
@@ -96,79 +81,64 @@ impl Parts {
         alloc: Global,
         name: Name,
         id: NodeId,
-    ) -> Result<(), NoMemory>
+    ) -> Result<Traced, NoMemory>
         requires accepted { refusal self.old (event.Router name id) ≡ None }
         requires in_range { id.0 < 2 ^ 32 }
         ensures ok { OnOk result (Step (record { event = event.Router name id; words = [] }) [] self.old self.new) }
+        ensures traced { IfOk result (λ traced. self.new.trace ≡ self.old.trace ++ traced ∷ []) }
         ensures err { OnErr result (self.new ≡ self.old) }
     {
-        let injected = self.trace.injected_with(&WEvent::Router { name, id });
-        make_room(
-            &mut self.members.items,
-            &mut self.published.items,
-            &mut self.trace.items,
-        )?;
+        make_room(&mut self.members.items, &mut self.published.items)?;
         let limit = table_limit(self.version);
         let (member, publication) = new_member(alloc, name, id, self.moment.get(), limit)?;
         self.members.items.push_reserved(member);
         self.published.items.push_reserved(publication);
-        self.trace
-            .items
-            .push_reserved(without_words(alloc, WEvent::Router { name, id }));
-        self.trace.injected = injected;
-        Ok(())
+        Ok(enter(&mut self.trace, alloc, WEvent::Router { name, id }))
     }
 
     /// A new link.
-    pub(crate) fn define_link(&mut self, alloc: Global, name: Name) -> Result<(), NoMemory>
+    pub(crate) fn define_link(&mut self, alloc: Global, name: Name) -> Result<Traced, NoMemory>
         requires accepted { refusal self.old (event.Link name) ≡ None }
         ensures ok { OnOk result (Step (record { event = event.Link name; words = [] }) [] self.old self.new) }
+        ensures traced { IfOk result (λ traced. self.new.trace ≡ self.old.trace ++ traced ∷ []) }
         ensures err { OnErr result (self.new ≡ self.old) }
     {
-        self.links.items.reserve(1)?;
-        enter(&mut self.trace, without_words(alloc, WEvent::Link { name }))?;
-        self.links.items.push_reserved(name);
-        Ok(())
+        self.links.items.push(name)?;
+        Ok(enter(&mut self.trace, alloc, WEvent::Link { name }))
     }
 
     /// The moment.
-    pub(crate) fn pass(&mut self, alloc: Global, moment: Moment) -> Result<(), NoMemory>
+    pub(crate) fn pass(&mut self, alloc: Global, moment: Moment) -> Traced
         requires accepted { refusal self.old (event.Time moment) ≡ None }
         requires in_range { moment ≤ 2 ^ 48 }
-        ensures ok { OnOk result (Step (record { event = event.Time moment; words = [] }) [] self.old self.new) }
-        ensures err { OnErr result (self.new ≡ self.old) }
+        ensures ok { Step (record { event = event.Time moment; words = [] }) [] self.old self.new }
+        ensures traced { self.new.trace ≡ self.old.trace ++ result ∷ [] }
     {
-        enter(
-            &mut self.trace,
-            without_words(alloc, WEvent::Time { moment }),
-        )?;
         self.moment = Present::new(moment);
-        Ok(())
+        enter(&mut self.trace, alloc, WEvent::Time { moment })
     }
 
     /// A router stops, which is at this place.
-    pub(crate) fn stop(&mut self, alloc: Global, name: Name, place: usize) -> Result<(), NoMemory>
+    pub(crate) fn stop(&mut self, alloc: Global, name: Name, place: usize) -> Traced
         requires placed { router_place (name_text name) self.old ≡ Some place }
         requires accepted { refusal self.old (event.Stop name) ≡ None }
-        ensures ok { OnOk result (Step (record { event = event.Stop name; words = [] }) [] self.old self.new) }
-        ensures err { OnErr result (self.new ≡ self.old) }
+        ensures ok { Step (record { event = event.Stop name; words = [] }) [] self.old self.new }
+        ensures traced { self.new.trace ≡ self.old.trace ++ result ∷ [] }
     {
-        enter(&mut self.trace, without_words(alloc, WEvent::Stop { name }))?;
         self.members.stop(place);
-        Ok(())
+        enter(&mut self.trace, alloc, WEvent::Stop { name })
     }
 
     /// A copy is dropped.
-    pub(crate) fn drop_copy(&mut self, alloc: Global, copy: u64) -> Result<(), NoMemory>
+    pub(crate) fn drop_copy(&mut self, alloc: Global, copy: u64) -> Traced
         requires accepted { refusal self.old (event.Drop copy) ≡ None }
-        ensures ok { OnOk result (Step (record { event = event.Drop copy; words = [] }) [] self.old self.new) }
-        ensures err { OnErr result (self.new ≡ self.old) }
+        ensures ok { Step (record { event = event.Drop copy; words = [] }) [] self.old self.new }
+        ensures traced { self.new.trace ≡ self.old.trace ++ result ∷ [] }
     {
         if self.copy_at(copy).is_none() {
             unreachable!()
         }
-        enter(&mut self.trace, without_words(alloc, WEvent::Drop { copy }))?;
         self.copies.take((copy - 1) as usize);
-        Ok(())
+        enter(&mut self.trace, alloc, WEvent::Drop { copy })
     }
 }

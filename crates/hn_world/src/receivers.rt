@@ -37,7 +37,7 @@ impl World {
     /// Whether a copy cannot be delivered: the router that it goes to is stopped, or its endpoint is detached. True also
     /// if there is no copy of that number. Never allocates.
     pub fn is_away(&self, copy: u64) -> bool
-        ensures { result ≡ option_map_or (is_away self.now) (copy_at self.now copy) true }
+        ensures { result ≡ option_map_or (is_away self.now.parts) (copy_at self.now.parts copy) true }
     {
         match self.parts.copy_at(copy) {
             Some(copy) => self.parts.is_away(copy),
@@ -51,7 +51,7 @@ impl World {
     ///
     /// Out of memory.
     pub fn running_names(&self, alloc: Global) -> Result<Vec<Name>, NoMemory>
-        ensures { IfOk result (λ names. names.items ≡ running_names self.now) }
+        ensures { IfOk result (λ names. names.items ≡ running_names self.now.parts) }
     {
         let mut names = Vec::with_capacity(alloc, self.parts.members.as_slice().len())?;
         for member in self.parts.members.as_slice() {

@@ -47,9 +47,6 @@ const FULL_OF_MAIL: u8 = 16;
 /// The code of addresses that a router may not have.
 const UNLISTED: u8 = 19;
 
-/// The most events.
-const MOST_EVENTS: usize = 1_000_000;
-
 /// The most copies, where further ones may be made.
 const MOST_COPIES: usize = 1_000_000;
 
@@ -263,7 +260,7 @@ impl Parts {
     fn is_full(&self, event: &WEvent, router: Option<&Member>) -> bool
         ensures { result ≡ (lacks_room event.now self.now (option_copied router.entry) || nat_le 1000000 (length self.now.trace)) }
     {
-        self.lacks_room(event, router) || self.trace.as_slice().len() >= MOST_EVENTS
+        self.lacks_room(event, router) || self.trace.is_full()
     }
 
     /// Whether there are as many copies or bytes of mail as there may be before a router answers.
@@ -285,7 +282,7 @@ impl Parts {
     fn refusal_of_answer(&self) -> Option<u8>
         ensures { result ≡ first_code ((9, nat_le 1000000 (length self.now.trace)) ∷ (16, is_full_of_mail self.now) ∷ []) }
     {
-        if self.trace.as_slice().len() >= MOST_EVENTS {
+        if self.trace.is_full() {
             return Some(FULL);
         }
         if self.has_much_mail() {

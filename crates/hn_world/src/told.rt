@@ -9,7 +9,7 @@ use hn_base::{Name, Version};
 impl World {
     /// The version of the language of scripts that the world is of. Never allocates.
     pub fn language_version(&self) -> Version
-        ensures { result ≡ self.now.version }
+        ensures { result ≡ self.now.parts.version }
     {
         self.parts.version
     }
@@ -17,7 +17,7 @@ impl World {
     /// The name of the link at a place, in order of definition from place 0; `None` if and only if the place is past the
     /// last. Never allocates.
     pub fn link_at(&self, place: usize) -> Option<Name>
-        ensures { result ≡ slice_get self.now.links place }
+        ensures { result ≡ slice_get self.now.parts.links place }
     {
         self.parts.links.get(place).copied()
     }

@@ -1,28 +1,33 @@
-ghost use Rattle.std.specs.Prelude.{◌≡◌, ◌^◌, ◌++◌, ◌∷◌, [], ℕ, List, min, length};
+ghost use Rattle.std.specs.Prelude.{◌≡◌, ◌^◌, ◌-◌, ◌++◌, ◌∷◌, [], min, length, nat_le};
 ghost use Rattle.hn_world.specs.Injected.{injected_by, injected_of};
 
 use crate::copies::MOST_BYTES;
 use crate::event::{Traced, WEvent};
-use std::alloc::Global;
+use hn_base::Past;
 use std::marker::Model;
 
-/// The events that a world accepted, in order, and how many bytes were injected, up to 2^28.
+/// The most events.
+const MOST_EVENTS: u64 = 1_000_000;
+
+/// The events that a world accepted, in order, with the words that each took. This list exists in proofs alone. At run
+/// time there is how many events there were, and how many bytes were injected, up to 2^28.
 #[derive(Drop)]
 pub struct Trace {
-    pub(crate) items: Vec<Traced>,
-    pub(crate) injected: u64,
+    past: Past<Traced>,
+    count: u64,
+    injected: u64,
 }
 
 impl Model for Trace {
-    ghost use Rattle.std.specs.Prelude.{◌≡◌, ◌^◌, List, min};
+    ghost use Rattle.std.specs.Prelude.{List};
     ghost use Rattle.hn_world.specs.declared.event.Traced.{Traced};
-    ghost use Rattle.hn_world.specs.Injected.{injected_of};
+    ghost use Rattle.hn_world.specs.Injected.{CountsTrace};
 
     ghost Value = { List Traced };
 
-    ghost view = { λ t. t.items.items };
+    ghost view = { λ t. t.past.items };
 
-    ghost invariant = { λ t. t.injected ≡ min (injected_of t.items.items) (2 ^ 28) };
+    ghost invariant = { λ t. CountsTrace t.past.items t.count t.injected };
 }
 
 impl WEvent {
@@ -39,20 +44,28 @@ impl WEvent {
 
 impl Trace {
     /// Nothing happened. Never allocates.
-    pub(crate) fn new(alloc: Global) -> Trace
+    pub(crate) fn new() -> Trace
         ensures { result ≡ [] }
     {
         Trace {
-            items: Vec::new(alloc),
+            past: Past::new(),
+            count: 0,
             injected: 0,
         }
     }
 
-    /// The events. Never allocates.
-    pub(crate) fn as_slice(&self) -> &[Traced]
-        ensures { result.now ≡ self.now }
+    /// Whether there were as many events as there may be. Never allocates.
+    pub(crate) fn is_full(&self) -> bool
+        ensures { result ≡ nat_le 1000000 (length self.now) }
     {
-        self.items.as_slice()
+        self.count >= MOST_EVENTS
+    }
+
+    /// How many events there were, up to 2^64 - 1. Never allocates.
+    pub(crate) fn count(&self) -> u64
+        ensures { result ≡ min (length self.now) (2 ^ 64 - 1) }
+    {
+        self.count
     }
 
     /// How many bytes were injected, up to 2^28. Never allocates.
@@ -62,12 +75,15 @@ impl Trace {
         self.injected
     }
 
-    /// What is injected with one more event, up to 2^28. Never allocates.
-    pub(crate) fn injected_with(&self, event: &WEvent) -> u64
-        ensures { (words : List ℕ) → result ≡ min (injected_of (self.now ++ record { event = event.now; words = words } ∷ [])) (2 ^ 28) }
+    /// One more event, with the words that it took. Never allocates.
+    pub(crate) fn enter(&mut self, traced: &Traced)
+        ensures { self.new ≡ self.old ++ traced.now ∷ [] }
     {
-        self.injected
-            .saturating_add(event.injected() as u64)
-            .min(MOST_BYTES)
+        self.past = self.past.and(traced);
+        self.count = self.count.saturating_add(1);
+        self.injected = self
+            .injected
+            .saturating_add(traced.event.injected() as u64)
+            .min(MOST_BYTES);
     }
 }

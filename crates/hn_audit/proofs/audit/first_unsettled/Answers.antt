@@ -5,7 +5,7 @@ use Rattle.hn_audit.proofs.audit.first_unsettled.Goals as goal
 
 pub returns-in-Some-unlike : goal.returns-in-Some-unlike
 returns-in-Some-unlike c =
-    let w = c.args.world.now in
+    let w = c.args.world.now.parts in
     let r = c.args.r.now in
     let found = c.in-Some-unlike.found in
     let is : members_of c.as_slice.result.now ≡ set_of w r =
@@ -18,7 +18,7 @@ returns-in-Some-unlike c =
 
 pub returns : goal.returns
 returns c =
-    let w = c.args.world.now in
+    let w = c.args.world.now.parts in
     let r = c.args.r.now in
     let found = c.first_on_links.result in
     let of_reach : members_of c.in_ok-set.set.items ≡ set_of w r = c.in_ok-set.ensures ∙ ap (λ (reach : List NodeId). filter (is_in_set reach) w.members) c.reach-reach.ensures in

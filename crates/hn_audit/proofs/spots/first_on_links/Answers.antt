@@ -13,7 +13,7 @@ pub returns : goal.returns
 returns c =
     let set = members_of c.args.set.now in
     let spots = plain_spots c.args.spots.now in
-    let strangers : Option Unsettled → Type 0 = IsFirstFound (FindsStranger c.args.reach.now spots) c.args.world.now.members in
+    let strangers : Option Unsettled → Type 0 = IsFirstFound (FindsStranger c.args.reach.now spots) c.args.world.now.parts.members in
     let unseen : Option Unsettled → Type 0 = IsFirstFound (λ a. IsFirstFound (FindsUnseen a) spots) spots in
     let untrue : Option Unsettled → Type 0 = IsFirstFound (FindsOfPeers set) set in
     or_else strangers (OrElse unseen untrue) c.in_default.ensures c.first_untrue.result (or_else unseen untrue c.in_default-first_unseen.ensures c.first_untrue.result c.first_untrue.ensures)

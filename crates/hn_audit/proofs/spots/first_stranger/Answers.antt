@@ -6,7 +6,7 @@ use Rattle.hn_audit.proofs.spots.first_stranger.Goals as goal
 pub returns-in-Some : goal.returns-in-Some
 returns-in-Some c =
     let all = c.loop-m.invariant in
-    found_here_in (FindsStranger c.args.reach.now (plain_spots c.args.spots.now)) c.members-m-items.result.now c.args.world.now.members all.all c.loop-m.m-index all.so_far
+    found_here_in (FindsStranger c.args.reach.now (plain_spots c.args.spots.now)) c.members-m-items.result.now c.args.world.now.parts.members all.all c.loop-m.m-index all.so_far
     c.m-item.result _ _ c.loop-m-test.true c.m-item.is c.in-Some.ensures
 
 pub loop-m-preserved : goal.loop-m-preserved
@@ -20,5 +20,5 @@ loop-m-preserved c =
 pub returns : goal.returns
 returns c =
     let all = c.loop-m.invariant in
-    found_nowhere_in (FindsStranger c.args.reach.now (plain_spots c.args.spots.now)) c.members-m-items.result.now c.args.world.now.members all.all c.loop-m.m-index all.so_far
+    found_nowhere_in (FindsStranger c.args.reach.now (plain_spots c.args.spots.now)) c.members-m-items.result.now c.args.world.now.parts.members all.all c.loop-m.m-index all.so_far
     (omega (arith, c.loop-m-test.false))

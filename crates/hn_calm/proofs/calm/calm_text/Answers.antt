@@ -9,13 +9,13 @@ returns-then-not-branch c =
     let there = sym (rw c.in-Some.is at c.member.ensures) in
     let law = c.in_ok-rests.ensures r there in
     IfOk-weaker c.restless_so.result _ _
-    (λ text told. restless_said_of c.args.name.now c.args.world.now r there (string_bytes text) (λ rests. no_rest c.in_ok-rests.field-0 c.if-not-branch.true (law.1 rests)) told.0 told.1 told.2)
+    (λ text told. restless_said_of c.args.name.now c.args.world.now.parts r there (string_bytes text) (λ rests. no_rest c.in_ok-rests.field-0 c.if-not-branch.true (law.1 rests)) told.0 told.1 told.2)
     c.restless_so.ensures
 
 pub returns-in-Some-2 : goal.returns-in-Some-2
 returns-in-Some-2 c =
     let r = c.in-Some.r.now in
-    let w = c.args.world.now in
+    let w = c.args.world.now.parts in
     let there = sym (rw c.in-Some.is at c.member.ensures) in
     let law = c.in_ok-rests.ensures r there in
     IfOk-weaker c.uncalm_so.result _ _
@@ -26,7 +26,7 @@ returns-in-Some-2 c =
 pub returns-in_ok-end-in-None : goal.returns-in_ok-end-in-None
 returns-in_ok-end-in-None c =
     let r = c.in-Some.r.now in
-    let w = c.args.world.now in
+    let w = c.args.world.now.parts in
     let there = sym (rw c.in-Some.is at c.member.ensures) in
     let law = c.in_ok-rests.ensures r there in
     IfOk-weaker c.calm_so.result _ _

@@ -4,6 +4,6 @@ use Rattle.hn_calm.proofs.ended.first_ended.Given as goal
 
 abbrev pub invariant-loop-m : goal.invariant-loop-m
 invariant-loop-m l = record {
-  all : l.m-items ≡ l.world.members;
-  so_far : All (λ one. FindsEnded l.world.moment one None) (take l.m-index l.m-items);
+  all : l.m-items ≡ l.world.parts.members;
+  so_far : All (λ one. FindsEnded l.world.parts.moment one None) (take l.m-index l.m-items);
 }

@@ -4,6 +4,6 @@ use Rattle.hn_calm.proofs.ended.last_before.Given as goal
 
 abbrev pub invariant-loop-m : goal.invariant-loop-m
 invariant-loop-m l = record {
-  all : l.m-items ≡ l.world.members;
+  all : l.m-items ≡ l.world.parts.members;
   so_far : LastBefore l.r (take l.m-index l.m-items) l.first;
 }

@@ -6,7 +6,7 @@ use Rattle.hn_calm.proofs.home.first_apart.Goals as goal
 pub returns-in-Some : goal.returns-in-Some
 returns-in-Some c =
     let all = c.loop-m.invariant in
-    found_here (FindsApart c.args.reach.now) c.members-m-items.result.now c.args.world.now.members all.all c.loop-m.m-index all.so_far c.m-item.result _ _ c.loop-m-test.true c.m-item.is
+    found_here (FindsApart c.args.reach.now) c.members-m-items.result.now c.args.world.now.parts.members all.all c.loop-m.m-index all.so_far c.m-item.result _ _ c.loop-m-test.true c.m-item.is
     c.in-Some.ensures
 
 pub loop-m-preserved : goal.loop-m-preserved
@@ -21,4 +21,4 @@ loop-m-preserved c =
 pub returns : goal.returns
 returns c =
     let all = c.loop-m.invariant in
-    found_nowhere (FindsApart c.args.reach.now) c.members-m-items.result.now c.args.world.now.members all.all c.loop-m.m-index all.so_far (omega (arith, c.loop-m-test.false))
+    found_nowhere (FindsApart c.args.reach.now) c.members-m-items.result.now c.args.world.now.parts.members all.all c.loop-m.m-index all.so_far (omega (arith, c.loop-m-test.false))

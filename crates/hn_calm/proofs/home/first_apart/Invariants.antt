@@ -4,6 +4,6 @@ use Rattle.hn_calm.proofs.home.first_apart.Given as goal
 
 abbrev pub invariant-loop-m : goal.invariant-loop-m
 invariant-loop-m l = record {
-  all : l.m-items ≡ l.world.members;
+  all : l.m-items ≡ l.world.parts.members;
   so_far : All (λ one. FindsApart l.reach one None) (take l.m-index l.m-items);
 }

@@ -16,13 +16,13 @@ returns-then-saturating_add-moment c =
     let range = c.moment.ensures.in_range in
     inr (inl (record {
       is = ap (λ (at : PeerAt). missing.Unheard at peer.contact) c.peer_at-at.ensures;
-      linked = linked_if c.args.world.now c.args.r.now c.args.y.now c.args.port.now peer c.requires None c.sent.result c.sent.ensures (c.is_none.ensures ∙ ap not c.if-is_none.false);
+      linked = linked_if c.args.world.now.parts c.args.r.now c.args.y.now c.args.port.now peer c.requires None c.sent.result c.sent.ensures (c.is_none.ensures ∙ ap not c.if-is_none.false);
       long = omega (arith, late, sum, now, range);
     }))
 
 pub returns-in-Some : goal.returns-in-Some
 returns-in-Some c =
-    let w = c.args.world.now in
+    let w = c.args.world.now.parts in
     let y = c.args.y.now in
     let q = c.args.port.now in
     let peer = c.args.peer.now in
@@ -40,7 +40,7 @@ returns-in-Some c =
 
 pub returns-in-None : goal.returns-in-None
 returns-in-None c =
-    let w = c.args.world.now in
+    let w = c.args.world.now.parts in
     let r = c.args.r.now in
     let y = c.args.y.now in
     let q = c.args.port.now in

@@ -6,7 +6,7 @@ use Rattle.hn_calm.proofs.sent.sent.Goals as goal
 pub returns-in-Some : goal.returns-in-Some
 returns-in-Some c =
     let all = c.loop-x.invariant in
-    found_here (FindsSentOf c.args.y.now c.args.q c.args.peer.now c.args.after) c.members-x-items.result.now c.args.world.now.members all.all c.loop-x.x-index all.so_far
+    found_here (FindsSentOf c.args.y.now c.args.q c.args.peer.now c.args.after) c.members-x-items.result.now c.args.world.now.parts.members all.all c.loop-x.x-index all.so_far
     c.x-item.result _ _ c.loop-x-test.true c.x-item.is
     c.in-Some.ensures
 
@@ -23,5 +23,5 @@ loop-x-preserved c =
 pub returns : goal.returns
 returns c =
     let all = c.loop-x.invariant in
-    found_nowhere (FindsSentOf c.args.y.now c.args.q c.args.peer.now c.args.after) c.members-x-items.result.now c.args.world.now.members all.all c.loop-x.x-index all.so_far
+    found_nowhere (FindsSentOf c.args.y.now c.args.q c.args.peer.now c.args.after) c.members-x-items.result.now c.args.world.now.parts.members all.all c.loop-x.x-index all.so_far
     (omega (arith, c.loop-x-test.false))

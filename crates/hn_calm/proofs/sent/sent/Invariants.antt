@@ -4,6 +4,6 @@ use Rattle.hn_calm.proofs.sent.sent.Given as goal
 
 abbrev pub invariant-loop-x : goal.invariant-loop-x
 invariant-loop-x l = record {
-  all : l.x-items ≡ l.world.members;
+  all : l.x-items ≡ l.world.parts.members;
   so_far : All (λ one. FindsSentOf l.y l.q l.peer l.after one None) (take l.x-index l.x-items);
 }

@@ -4,7 +4,7 @@ use Rattle.hn_lab.proofs.audit_report.audited.Goals as goal
 
 pub returns-then-not-branch-2 : goal.returns-then-not-branch-2
 returns-then-not-branch-2 c =
-    let w = c.args.world.now in
+    let w = c.args.world.now.parts in
     let m = c.args.member.now in
     let yes : c.in_ok-settled.field-0 ≡ true = search rules in
     let no : c.in_ok-quiet.field-0 ≡ false = search rules in

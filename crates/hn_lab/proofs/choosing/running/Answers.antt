@@ -4,4 +4,4 @@ use Rattle.hn_lab.proofs.TextReports.{member_of}
 use Rattle.hn_lab.proofs.choosing.running.Goals as goal
 
 pub returns : goal.returns
-returns c = member_of (member_named (name_text c.args.name.now) c.args.world.now) c.in-Some.router.now c.in-Some.ensures
+returns c = member_of (member_named (name_text c.args.name.now) c.args.world.now.parts) c.in-Some.router.now c.in-Some.ensures

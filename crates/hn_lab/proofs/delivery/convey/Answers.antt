@@ -5,8 +5,8 @@ use Rattle.hn_lab.proofs.RunDeliveries.{delivered_copy, bytes_of_copy, short_cop
 use Rattle.hn_lab.proofs.delivery.convey.Goals as goal
 
 pub carry-requires : goal.carry-requires
-carry-requires g c = short_copy c.args.playing.now.world c.args.copy c.in-Some.bytes.now
-    (c.always_within_limits.ensures.now c.args.playing.now.world c.is_replayed.ensures) c.in-Some.ensures c.requires
+carry-requires g c = short_copy c.args.playing.now.world.parts c.args.copy c.in-Some.bytes.now
+    (c.always_within_limits.ensures.now c.args.playing.now.world.parts c.is_replayed.ensures) c.in-Some.ensures c.requires
 
 pub returns-in-Ok-clause-ends : goal.returns-in-Ok-clause-ends
 returns-in-Ok-clause-ends g c text =

@@ -8,7 +8,7 @@ use Rattle.hn_lab.proofs.flow.flow.Goals as goal
 pub loop-copy-preserved : goal.loop-copy-preserved
 loop-copy-preserved g c =
     let before = c.loop-copy.invariant in
-    let waits = some_waits (first_waiting c.loop-copy.playing.world.copies) c.in-Some.copy (sym c.next_waiting.ensures ∙ c.in-Some.is) in
+    let waits = some_waits (first_waiting c.loop-copy.playing.world.parts.copies) c.in-Some.copy (sym c.next_waiting.ensures ∙ c.in-Some.is) in
     record {
       treated = λ text.
           once_more HasWaiting CopyEnds (stage_of c.args.playing.now (g.C.Carrier.route c.args.carrier.now c.args.outside.now) text)
@@ -25,7 +25,7 @@ returns-in_err-treat_first-clause-ends g c text =
     let b = stage_of c.loop-copy.playing (g.C.Carrier.route c.args.carrier.now c.loop-copy.outside) text in
     let a = stage_of c.treat_first.new.playing (g.C.Carrier.route c.args.carrier.now c.treat_first.new.outside) text in
     let so_far = c.loop-copy.invariant.treated text in
-    let waits = some_waits (first_waiting c.loop-copy.playing.world.copies) c.in-Some.copy (sym c.next_waiting.ensures ∙ c.in-Some.is) in
+    let waits = some_waits (first_waiting c.loop-copy.playing.world.parts.copies) c.in-Some.copy (sym c.next_waiting.ensures ∙ c.in-Some.is) in
     let why = c.in_err-treat_first.field-0.0 in
     handed_on (λ _. Flow) Flow why c.from_residual.result p a c.from_residual.ensures.1
     (stopped_within CopyEnds Flow why p b a (λ at h. (so_far.0, b, so_far.1, waits, h)) refl (c.in_err-treat_first.ensures.ends text))
@@ -33,7 +33,7 @@ returns-in_err-treat_first-clause-ends g c text =
 pub returns-clause-ends : goal.returns-clause-ends
 returns-clause-ends g c text =
     let so_far = c.loop-copy.invariant.treated text in
-    (so_far.0, so_far.1, λ waits. waits (none_waits (first_waiting c.loop-copy.playing.world.copies) (sym c.next_waiting.ensures ∙ c.in_default.is)))
+    (so_far.0, so_far.1, λ waits. waits (none_waits (first_waiting c.loop-copy.playing.world.parts.copies) (sym c.next_waiting.ensures ∙ c.in_default.is)))
 
 pub returns-in_err-treat_first-clause-unwritten : goal.returns-in_err-treat_first-clause-unwritten
 returns-in_err-treat_first-clause-unwritten g c =

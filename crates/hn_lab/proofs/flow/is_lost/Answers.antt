@@ -1,5 +1,5 @@
-use Rattle.hn_base.proofs.Names.{◌∙◌, sym, refl}
-use Rattle.hn_lab.proofs.Names.{stage_of}
+use Rattle.hn_base.proofs.Names.{◌∙◌, sym, refl, ap}
+use Rattle.hn_lab.proofs.Names.{SeenWorld, stage_of}
 use Rattle.hn_lab.proofs.RunCopies.{away_of, when_near}
 use Rattle.hn_lab.proofs.flow.is_lost.Goals as goal
 
@@ -8,5 +8,5 @@ returns-else-is_away-clause-lost c route text place copy same at =
     let p = stage_of c.args.playing.now route text in
     let q = stage_of c.loses.new.playing route text in
     let near = sym (c.is_away.ensures ∙ away_of p.world c.args.copy place copy same at) ∙ c.if-is_away.false in
-    when_near p q copy c.loses.result near c.loses.ensures.world c.loses.ensures.loss c.loses.ensures.words
+    when_near p q copy c.loses.result near (ap (λ (w : SeenWorld). w.parts) c.loses.ensures.world) c.loses.ensures.loss c.loses.ensures.words
     refl c.loses.ensures.senders refl c.loses.ensures.lost

@@ -4,7 +4,7 @@ use Rattle.hn_lab.proofs.report.told.Goals as goal
 
 pub returns-in-Some : goal.returns-in-Some
 returns-in-Some c =
-    let w = c.args.world.now in
+    let w = c.args.world.now.parts in
     let name = c.in-Router.name in
     let m = c.in-Some.member.now in
     subst (λ (r : Report). IfOk c.told_about.result (IsReport r w)) (sym c.in-Router.is)

@@ -5,5 +5,5 @@ use Rattle.hn_lab.proofs.reports.compare_line.Goals as goal
 
 pub returns : goal.returns
 returns c =
-    compares c.args.left.now c.args.right.now c.args.world.now c.in_ok-agreement.agreement c.reach_the_same.result (string_bytes c.in_ok-format.field-0) c.requires
+    compares c.args.left.now c.args.right.now c.args.world.now.parts c.in_ok-agreement.agreement c.reach_the_same.result (string_bytes c.in_ok-format.field-0) c.requires
     c.in_ok-agreement.ensures.compared c.reach_the_same.ensures (simp append_assoc (rw (← c.in_ok-text.ensures) c.in_ok-format.ensures.ok))

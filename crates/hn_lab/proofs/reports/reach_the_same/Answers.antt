@@ -7,7 +7,7 @@ use Rattle.hn_lab.proofs.reports.reach_the_same.Goals as goal
 
 pub returns-in-Some-Some : goal.returns-in-Some-Some
 returns-in-Some-Some c =
-    let w = c.args.world.now in
+    let w = c.args.world.now.parts in
     let xs = c.reach.result.now in
     let ys = c.reach-in-Some-Some.result.now in
     let same : Decides c.eq.result (xs ≡ ys) = slice_eq-Decides node_decided xs ys c.eq.result c.eq.ensures in

@@ -8,7 +8,7 @@ pub returns-clause-ends : goal.returns-clause-ends
 returns-clause-ends c route text =
     let p = stage_of c.args.playing.now route text in
     let a = stage_of c.event.new.self route text in
-    let same : c.min-moment.result ≡ min (c.args.playing.now.world.moment + c.args.step) c.args.end =
+    let same : c.min-moment.result ≡ min (c.args.playing.now.world.parts.moment + c.args.step) c.args.end =
     omega (arith, c.min-moment.ensures, c.saturating_add.ensures, c.moment.ensures.moment, c.requires.end)
     in
     let ends = Passes c.args.end c.args.step in

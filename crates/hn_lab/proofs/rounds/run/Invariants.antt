@@ -18,4 +18,4 @@ invariant-loop-alloc g l =
     }
 
 abbrev pub decreases-loop-alloc : goal.decreases-loop-alloc
-decreases-loop-alloc g l = 1000000 - length l.playing.world.trace
+decreases-loop-alloc g l = 1000000 - length l.playing.world.parts.trace

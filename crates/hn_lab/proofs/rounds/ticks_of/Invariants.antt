@@ -9,7 +9,7 @@ invariant-loop-name g l =
     record {
       ticked : (route : Route) (text : List Told)
           → EndsAt (EachProcess TickEnds (take l.name-index l.names)) None (stage_of l.fn.playing route text) (stage_of l.playing route text) (sink.held l.fn.out) (sink.held l.out);
-      kept : length l.fn.playing.world.trace ≤ length l.playing.world.trace;
+      kept : length l.fn.playing.world.parts.trace ≤ length l.playing.world.parts.trace;
       no_fault : sink.faults l.out ≡ sink.faults l.fn.out;
       reliable : sink.never_fails l.fn.out → sink.never_fails l.out;
     }

@@ -1,19 +1,19 @@
 use Rattle.hn_base.proofs.Names.{[], Err, inl, inr, refl, ap, subst, arith}
-use Rattle.hn_lab.proofs.Names.{HasDonePlay, HasRefusal, route_of}
+use Rattle.hn_lab.proofs.Names.{world_parts, HasDonePlay, HasRefusal, route_of}
 use Rattle.hn_lab.proofs.PlayScripts.{among_more, appends_nothing}
 use Rattle.hn_lab.proofs.scripts.play_bytes.Goals as goal
 
 pub returns-in-Ok-clause-lab : goal.returns-in-Ok-clause-lab
 returns-in-Ok-clause-lab g c =
-    let plays = c.play.ensures.plays in
+    let plays = c.play_script.ensures.plays in
     (plays.0, inr (inl (record { script = c.in-Ok.script; is_script = c.in-Ok.ensures.script; plays = plays.1 })), plays.2)
 
 pub returns-in-Ok-clause-only : goal.returns-in-Ok-clause-only
 returns-in-Ok-clause-only g c =
     let route = route_of c.args.base (g.W.Wire.waiting c.args.wire.now) in
     record {
-      done = λ script is has. c.play.ensures.done (subst (HasDonePlay route) (c.script_is_unique.ensures c.args.bytes.now script c.in-Ok.script is c.in-Ok.ensures.script) has);
-      refused = λ script is has. c.play.ensures.refused (subst (HasRefusal route) (c.script_is_unique.ensures c.args.bytes.now script c.in-Ok.script is c.in-Ok.ensures.script) has);
+      done = λ script is has. c.play_script.ensures.done (subst (HasDonePlay route) (c.script_is_unique.ensures c.args.bytes.now script c.in-Ok.script is c.in-Ok.ensures.script) has);
+      refused = λ script is has. c.play_script.ensures.refused (subst (HasRefusal route) (c.script_is_unique.ensures c.args.bytes.now script c.in-Ok.script is c.in-Ok.ensures.script) has);
       no_script = λ fault is _. absurd (c.fault_excludes_script.ensures c.args.bytes.now fault c.in-Ok.script is c.in-Ok.ensures.script);
     }
 
@@ -31,7 +31,7 @@ returns-in-Err-Script-clause-statuses g c = among_more c.refuse.result.status c.
 
 pub returns-in-Err-NoMemory-clause-lab : goal.returns-in-Err-NoMemory-clause-lab
 returns-in-Err-NoMemory-clause-lab g c =
-    ([], inr (inr (c.without_world.ensures.status, c.without_world.ensures.no_world, refl, refl)), appends_nothing (g.K.Sink.held c.args.out.now))
+    ([], inr (inr (c.without_world.ensures.status, ap world_parts c.without_world.ensures.no_world, refl, refl)), appends_nothing (g.K.Sink.held c.args.out.now))
 
 pub returns-in-Err-NoMemory-clause-only : goal.returns-in-Err-NoMemory-clause-only
 returns-in-Err-NoMemory-clause-only g c =

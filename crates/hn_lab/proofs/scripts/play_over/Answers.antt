@@ -1,5 +1,5 @@
-use Rattle.hn_base.proofs.Names.{rules, ◌≡◌, ◌∙◌, ℕ, List, [], Some, refl, sym, subst, Appends, AllByRecursion}
-use Rattle.hn_lab.proofs.Names.{Version, IsOfVersion, Line, Script, HasDonePlay, HasRefusal, Plays, stage_of}
+use Rattle.hn_base.proofs.Names.{rules, ◌≡◌, ◌∙◌, ℕ, List, [], Some, refl, ap, sym, subst, Appends, AllByRecursion}
+use Rattle.hn_lab.proofs.Names.{world_parts, Version, IsOfVersion, Line, Script, HasDonePlay, HasRefusal, Plays, stage_of}
 use Rattle.hn_lab.proofs.PlayScripts.{not_refused, not_done, plays_out, starves}
 use Rattle.hn_lab.proofs.scripts.play_over.Goals as goal
 
@@ -22,10 +22,11 @@ returns-then-status-eq-NO_MEMORY-clause-plays g c =
     let k = g.K.Sink.held c.play_lines-end.new.out in
     let six = c.if-status-eq-NO_MEMORY.true in
     let status = c.without_world.result.status in
-    let world = c.without_world.result.world in
+    let world = world_parts c.without_world.result.world in
     subst (λ (lines : List (ℕ × Line)). (written : List ℕ) × Plays first last (played c.args.script.version lines) status world written × Appends h k written) c.into_vec.ensures
     (starves (played c.args.script.version c.into_vec.result.items) first last status world (stage_of c.new-playing.result first []) h k
-    (c.without_world.ensures.status ∙ six) c.without_world.ensures.no_world (c.new-playing.ensures first) (c.play_lines-end.ensures.starved (c.play_status-status.ensures.starved six)))
+    (c.without_world.ensures.status ∙ six) (ap world_parts c.without_world.ensures.no_world) (c.new-playing.ensures first)
+    (c.play_lines-end.ensures.starved (c.play_status-status.ensures.starved six)))
 
 pub returns-clause-plays : goal.returns-clause-plays
 returns-clause-plays g c =

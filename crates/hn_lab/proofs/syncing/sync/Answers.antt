@@ -1,5 +1,5 @@
 use Rattle.hn_base.proofs.Names.{Err, refl, ap}
-use Rattle.hn_lab.proofs.Names.{same_error, Playing, Leaves, OtherEnds, stage_of, stream_words, SyncEnds}
+use Rattle.hn_lab.proofs.Names.{same_error, SeenWorld, Playing, Leaves, OtherEnds, stage_of, stream_words, SyncEnds}
 use Rattle.hn_script.specs.declared.line.Line.TheVariants as line
 use Rattle.hn_lab.proofs.RunAnswers.{answer_on}
 use Rattle.hn_lab.proofs.RunEvents.{same_stage}
@@ -18,7 +18,7 @@ returns-in_err-sync c route text =
     let a = stage_of q route text in
     answer_on (SyncEnds m n) (OtherEnds (line.Sync m n)) p p a (λ code h. h) (Leaves (SyncEnds m n)) (Leaves (OtherEnds (line.Sync m n))) why c.from_residual.result
     c.from_residual.ensures.1 (not_synced m n why p a
-    (λ code is. let first = c.in_err-sync.ensures.first code is in (same_error _ _ first.0, same_stage p a first.1 refl (ap stream_words first.2) refl refl refl))
+    (λ code is. let first = c.in_err-sync.ensures.first code is in (same_error _ _ first.0, same_stage p a (ap (λ (w : SeenWorld). w.parts) first.1) refl (ap stream_words first.2) refl refl refl))
     (λ code is same. record { ends = c.in_err-sync.ensures.later code is (ap Err same); loss = refl; route = refl; senders = refl; text = refl }))
 
 pub returns : goal.returns

@@ -11,7 +11,7 @@ returns-then-not-branch c =
 
 pub returns-then-not-branch-2 : goal.returns-then-not-branch-2
 returns-then-not-branch-2 c =
-    let w = c.args.world.now in
+    let w = c.args.world.now.parts in
     let m = c.args.member.now in
     let yes : c.in_ok-settled.field-0 ≡ true = search rules in
     let no : c.in_ok-all_still.field-0 ≡ false = search rules in
@@ -23,7 +23,7 @@ returns-then-not-branch-2 c =
 
 pub returns : goal.returns
 returns c =
-    let w = c.args.world.now in
+    let w = c.args.world.now.parts in
     let m = c.args.member.now in
     let reach = c.reach-reach.result.now in
     let members = c.members-members.result.now in

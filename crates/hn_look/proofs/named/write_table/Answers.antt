@@ -6,7 +6,7 @@ use Rattle.hn_look.proofs.named.write_table.Goals as goal
 pub returns-clause-looked : goal.returns-clause-looked
 returns-clause-looked g c =
     let name = name_text c.args.name.now in
-    let w = c.args.world.now in
+    let w = c.args.world.now.parts in
     let m = c.in-Some.member.now in
     let holds = subst (IsTableText name m) (sym c.as_str.ensures.value) c.in-Ok.ensures in
     looked_as (Unit {0}) (Says c.as_str.result.now) (SeesTable name w)

@@ -1,20 +1,24 @@
 use Rattle.hn_base.proofs.Names.{◌≡◌, refl, rules}
+use Rattle.hn_look.proofs.Names.{world_parts}
 use Rattle.hn_look.proofs.Looks.{status_of_look, without_wire}
 use Rattle.hn_look.proofs.Refusals.{ends_so, unseen}
 use Rattle.hn_look.proofs.program.play_and_look.Goals as goal
 
 pub returns-then-played-ne-REFUSED-clause-look : goal.returns-then-played-ne-REFUSED-clause-look
 returns-then-played-ne-REFUSED-clause-look g c good =
-    let status = c.lab-played.result.status in
+    let status = c.lab_by_mail-played.result.status in
     let six : status ≡ 6 = search rules in
-    unseen _ _ (g.S.Source.left c.args.src.now) c.lab-played.result.world status _ _ (g.K.Sink.held c.args.out.now) c.new-transcript.ensures.held
-    (c.lab-played.ensures.lab good) six
+    unseen _ _ (g.S.Source.left c.args.src.now) (world_parts c.lab_by_mail-played.result.world) status _ _ (g.K.Sink.held c.args.out.now) c.new-transcript.ensures.held
+    (c.lab_by_mail-played.ensures.lab good) six
 
 pub returns-then-played-ne-REFUSED-clause-statuses : goal.returns-then-played-ne-REFUSED-clause-statuses
-returns-then-played-ne-REFUSED-clause-statuses g c = without_wire c.lab-played.result.status c.lab-played.ensures.statuses (c.lab-played.ensures.unwired refl).1
+returns-then-played-ne-REFUSED-clause-statuses g c =
+    without_wire c.lab_by_mail-played.result.status c.lab_by_mail-played.ensures.statuses c.lab_by_mail-played.ensures.unwired
 
 pub look-requires-clause-refused : goal.look-requires-clause-refused
-look-requires-clause-refused g c = λ two. ends_so _ c.lab-played.result.world c.lab-played.result.status _ _ c.held.result.now c.new-transcript.ensures.held c.held.ensures c.lab-played.ensures.lab two
+look-requires-clause-refused g c = λ two. ends_so _ (world_parts c.lab_by_mail-played.result.world) c.lab_by_mail-played.result.status _ _ c.held.result.now c.new-transcript.ensures.held
+    c.held.ensures
+    c.lab_by_mail-played.ensures.lab two
 
 pub returns-clause-statuses : goal.returns-clause-statuses
 returns-clause-statuses g c = rw c.looked_status.ensures (status_of_look c.look.result c.look.ensures.statuses)

@@ -6,4 +6,4 @@ pub loop-made-preserved : goal.loop-made-preserved
 loop-made-preserved c =
     let count = c.copies-count.ensures in
     let more = c.loop-made-test.true in
-    copies_more c.args.world.now c.loop-made.made _ _ _ (omega arith) c.loop-made.invariant c.in_ok-push_copy.ensures
+    copies_more c.args.world.now.parts c.loop-made.made _ _ _ (omega arith) c.loop-made.invariant c.in_ok-push_copy.ensures

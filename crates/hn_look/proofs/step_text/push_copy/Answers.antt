@@ -5,7 +5,7 @@ use Rattle.hn_look.proofs.step_text.push_copy.Goals as goal
 
 pub returns : goal.returns
 returns c =
-    let w = c.args.world.now in
+    let w = c.args.world.now.parts in
     let info = c.in-Some-Some.info in
     let old = string_bytes c.args.text.now in
     let has = rw c.in-Some-Some.is-0 at c.copy_info.ensures.info in

@@ -1,5 +1,5 @@
 use Rattle.hn_base.proofs.Names.{◌≡◌, map, refl, arith}
-use Rattle.hn_run.proofs.Names.{Lab, Udp, Node, Decode, Watch, Soak, IsNodeRun, PlainCall}
+use Rattle.hn_run.proofs.Names.{world_parts, Lab, Udp, Node, Decode, Watch, Soak, IsNodeRun, PlainCall}
 use Rattle.std.specs.String.{string_bytes}
 use Rattle.hn_run.proofs.LeftOnWire.{leaves_of_base}
 use Rattle.hn_run.proofs.OneCall.{as_called, call_in_range}
@@ -33,7 +33,7 @@ returns-in-Some-Udp-clause-udp_leaves g c base waiting asked tells five =
     let some : result.status ≡ 3 → ⊥ = λ three. omega (arith, five', three) in
     rw c.of_play-in-Some-Udp.ensures.world
     (leaves_of_base c.wire_fails_at_a_copy.ensures c.in-Some-Udp.base base waiting (g.W.Wire.waiting c.args.wire.now) (g.W.Wire.waiting c.lab-in-Some-Udp.new.wire) words
-    (g.S.Source.left c.args.src.now) result.status result.world (g.K.Sink.held c.args.out.now) (g.K.Sink.held c.lab-in-Some-Udp.new.out)
+    (g.S.Source.left c.args.src.now) result.status (world_parts result.world) (g.K.Sink.held c.args.out.now) (g.K.Sink.held c.lab-in-Some-Udp.new.out)
     read asked tells five' (c.lab-in-Some-Udp.ensures.lab some))
 
 pub returns-in-None-clause-udp_leaves : goal.returns-in-None-clause-udp_leaves

@@ -1,5 +1,5 @@
-use Rattle.hn_base.proofs.Names.{◌≡◌, ◌⊎◌, ℕ, zero, suc, List, [], ◌∷◌, Option, None, inl, inr, refl, sym, subst, lit<, arith, Appends}
-use Rattle.hn_run.proofs.Names.{Contains, IsLabRun, Parts}
+use Rattle.hn_base.proofs.Names.{◌≡◌, ◌⊎◌, ℕ, zero, suc, List, [], ◌∷◌, Option, None, inl, inr, refl, ap, sym, subst, lit<, arith, Appends}
+use Rattle.hn_run.proofs.Names.{world_parts, Contains, IsLabRun, Parts}
 use Rattle.hn_lab.specs.Lab.{HasDonePlay, HasRefusal, IsScriptPlay, IsUnread, StatusOfScript}
 use Rattle.hn_lab.specs.Stage.{Mail}
 use Rattle.hn_script.specs.Soak.{soak_text}
@@ -26,18 +26,18 @@ returns-in-Ok-clause-soak g c =
     let before = g.K.Sink.held c.args.out.now in
     let after = g.K.Sink.held c.play.new.out in
     let bytes = soak_text c.args.n c.args.seed in
-    let comes : IsScriptPlay Mail Mail bytes status c.play.result.world plays.0 ⊎ IsUnread Mail Mail status c.play.result.world plays.0 =
+    let comes : IsScriptPlay Mail Mail bytes status (world_parts c.play.result.world) plays.0 ⊎ IsUnread Mail Mail status (world_parts c.play.result.world) plays.0 =
     inl (record { script = c.in-Ok.script; is_script = c.in-Ok.ensures; plays = plays.1 }) in
     let only : StatusOfScript Mail bytes status = record {
       done = λ script is done. c.play.ensures.done (subst (HasDonePlay Mail) (c.script_is_unique.ensures _ script c.in-Ok.script is c.in-Ok.ensures) done);
       refused = λ script is refused. c.play.ensures.refused (subst (HasRefusal Mail) (c.script_is_unique.ensures _ script c.in-Ok.script is c.in-Ok.ensures) refused);
       no_script = λ fault is. absurd (c.fault_excludes_script.ensures _ fault c.in-Ok.script is c.in-Ok.ensures);
     } in
-    let run = as_lab bytes status c.play.result.world plays.0 before after comes only plays.2 in
+    let run = as_lab bytes status (world_parts c.play.result.world) plays.0 before after comes only plays.2 in
     record {
       written = plays.0;
       comes = comes;
-      of_script = c.lab_is_of_transcript.ensures Mail None status c.play.result.world before after run (c.play.ensures.unwired refl).1;
+      of_script = c.lab_is_of_transcript.ensures Mail None status (world_parts c.play.result.world) before after run (c.play.ensures.unwired refl).1;
       only = only;
       appends = plays.2;
     }
@@ -46,10 +46,10 @@ pub returns-in-Err-clause-soak : goal.returns-in-Err-clause-soak
 returns-in-Err-clause-soak g c =
     let six = c.without_world.ensures.status in
     let status = c.without_world.result.status in
-    let world = c.without_world.result.world in
+    let world = world_parts c.without_world.result.world in
     let held = g.K.Sink.held c.args.out.now in
     let bytes = soak_text c.args.n c.args.seed in
-    let comes : IsScriptPlay Mail Mail bytes status world [] ⊎ IsUnread Mail Mail status world [] = inr (six, c.without_world.ensures.no_world, refl, refl) in
+    let comes : IsScriptPlay Mail Mail bytes status world [] ⊎ IsUnread Mail Mail status world [] = inr (six, ap world_parts c.without_world.ensures.no_world, refl, refl) in
     let only : StatusOfScript Mail bytes status = record {
       done = λ script is done two. absurd (omega (arith, six, two));
       refused = λ script is refused none. absurd (omega (arith, six, none));

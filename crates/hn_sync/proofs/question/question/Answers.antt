@@ -6,7 +6,7 @@ use Rattle.hn_sync.proofs.question.question.Goals.{in_default-2-via-in-Some+in_d
 
 pub unreachable-requires-in_default-2 : goal.unreachable-requires-in_default-2
 unreachable-requires-in_default-2 c =
-    let w = c.args.world.now in
+    let w = c.args.world.now.parts in
     let one = c.in-Some-Some.one.now in
     let two = c.in-Some-Some.two.now in
     let so = there_are c.args.a.now c.args.b.now w one two (sym c.in-Some-Some.ensures) (sym c.in-Some-Some.ensures') c.requires in
@@ -16,7 +16,7 @@ unreachable-requires-in_default-2 c =
 
 pub returns : goal.returns
 returns c =
-    let w = c.args.world.now in
+    let w = c.args.world.now.parts in
     let found = c.in-Some-Some-2 in
     question_is c.args.a.now c.args.b.now w c.in-Some-Some.one.now c.in-Some-Some.two.now (c.always_sound.ensures.sound w c.is_replayed.ensures)
     (sym c.in-Some-Some.ensures) (sym c.in-Some-Some.ensures') c.requires found.e found.f found.place (sym found.ensures) (sym found.ensures')

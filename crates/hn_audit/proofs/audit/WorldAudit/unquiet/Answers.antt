@@ -5,7 +5,7 @@ use Rattle.hn_audit.proofs.audit.WorldAudit.unquiet.Goals as goal
 
 pub returns-clause-none : goal.returns-clause-none
 returns-clause-none c m named =
-    let w = c.args.self.now in
+    let w = c.args.self.now.parts in
     let r = c.in-Some.r.now in
     let found = c.in_ok-found.found in
     let same : r ≡ m = same_Some r m (c.in-Some.ensures ∙ named) in
@@ -13,7 +13,7 @@ returns-clause-none c m named =
 
 pub returns-clause-some : goal.returns-clause-some
 returns-clause-some c m named =
-    let w = c.args.self.now in
+    let w = c.args.self.now.parts in
     let r = c.in-Some.r.now in
     let found = c.in_ok-found.found in
     let same : r ≡ m = same_Some r m (c.in-Some.ensures ∙ named) in
@@ -21,7 +21,7 @@ returns-clause-some c m named =
 
 pub returns-clause-first : goal.returns-clause-first
 returns-clause-first c m named =
-    let w = c.args.self.now in
+    let w = c.args.self.now.parts in
     let r = c.in-Some.r.now in
     let same : r ≡ m = same_Some r m (c.in-Some.ensures ∙ named) in
     subst (λ (n : Member). IsFirstUnquiet w n c.in_ok-found.found) same c.in_ok-found.ensures

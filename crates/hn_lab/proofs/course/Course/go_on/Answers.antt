@@ -62,7 +62,7 @@ returns-then-is_report c =
     let text : c.cut.new.self ≡ s.text =
     c.cut.ensures ∙ ap (λ (n : ℕ). take n new.out) c.len-so_far.ensures ∙ cut_back c.args.line c.in-Err.field-0 s.playing new.playing s.text new.out c.in-Err.ensures.ends in
     let same : opened_of (record s { playing = new.playing; text = c.cut.new.self }) ≡ opened_of s =
-    λ i. record { script = script_of s; source = s.source.items; end = s.end; world = (ap (λ (p : Playing). p.world) playing) i; text = text i } in
+    λ i. record { script = script_of s; source = s.source.items; end = s.end; world = (ap (λ (p : Playing). p.world.parts) playing) i; text = text i } in
     record {
       played = (
         played_as (script_of s) (script_of s) s.end s.end s.playing new.playing s.text c.cut.new.self refl refl playing text c.requires.played.0,

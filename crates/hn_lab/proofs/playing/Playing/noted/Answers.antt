@@ -1,5 +1,5 @@
 use Rattle.hn_base.proofs.Names.{None, Err, refl, ap}
-use Rattle.hn_lab.proofs.Names.{EventNotes, EventEnds, stage_of, stream_words}
+use Rattle.hn_lab.proofs.Names.{SeenWorld, EventNotes, EventEnds, stage_of, stream_words}
 use Rattle.hn_lab.proofs.RunAnswers.{answer_on}
 use Rattle.hn_lab.proofs.RunEvents.{same_stage, not_applied, one_more}
 use Rattle.hn_lab.proofs.playing.Playing.noted.Goals as goal
@@ -13,7 +13,7 @@ returns-in_err-apply-clause-ends c route text =
     answer_on (EventEnds ev) (EventEnds ev) p p a (λ code h. h) (λ notes. EventNotes ev notes None) (λ notes. EventNotes ev notes None) why c.from_residual.result
     c.from_residual.ensures.1 (not_applied ev why p a (λ code is. (
       (c.in_err-apply.ensures.refused code).0 (ap Err is),
-      same_stage p a c.in_err-apply.ensures.err refl (ap stream_words (c.in_err-apply.ensures.undrawn code (ap Err is))) refl refl refl,
+      same_stage p a (ap (λ (w : SeenWorld). w.parts) c.in_err-apply.ensures.err) refl (ap stream_words (c.in_err-apply.ensures.undrawn code (ap Err is))) refl refl refl,
     )))
 
 pub returns-clause-entered : goal.returns-clause-entered

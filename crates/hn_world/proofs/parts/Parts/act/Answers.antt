@@ -18,9 +18,9 @@ returns-clause-ok g c =
     let is = c.in_ok-plan.ensures in
     let route : routed c.args.event ≡ Some (c.in-Some.field-0-0, plain_event c.in-Some.own) = sym c.routed.ensures ∙ ap (option_map (λ own. (own.0, plain_event own.1))) c.in-Some.is in
     ok_both c.finish.result _ _ _
-    (λ notes world noted.
+    (λ happened world noted.
     acted_step (with_beside c.in_ok-beside.beside) c.args.place
-    (plain_event c.in-Some.own) _ _ c.args.self.now plan is c.args.event c.in-Some.field-0-0 c.finish.new.self notes c.requires.accepted
+    (plain_event c.in-Some.own) _ _ c.args.self.now plan is c.args.event c.in-Some.field-0-0 c.finish.new.self happened.notes c.requires.accepted
     c.requires.in_range c.event_in_range.ensures route c.requires.placed
     (c.in_ok-beside.ensures is.member plan.state is.is_member) world noted)
     c.finish.ensures.world c.finish.ensures.notes

@@ -24,7 +24,7 @@ take-requires g c =
     let is = subst (λ (bytes : List ℕ). IsPlanned mail.to.place (Arrive origin bytes) (g.D.Draw.words c.args.draw.now) (g.D.Draw.words c.plan.new.draw) c.args.self.now plan)
     (c.as_slice.ensures ∙ c.get.ensures) c.in_ok-plan.ensures in
     let at : copy_at c.args.self.now c.args.copy ≡ Some mail = sym c.copy_at.ensures ∙ ap option_copied c.in-Some.is in
-    stays_within c.args.copy mail _ _ c.args.self.now c.finish.new.self plan at is c.in_ok-notes.ensures.world
+    stays_within c.args.copy mail _ _ c.args.self.now c.finish.new.self plan at is c.in_ok-happened.ensures.world
 
 pub returns-clause-ok : goal.returns-clause-ok
 returns-clause-ok g c =
@@ -34,5 +34,5 @@ returns-clause-ok g c =
     let is = subst (λ (bytes : List ℕ). IsPlanned mail.to.place (Arrive origin bytes) (g.D.Draw.words c.args.draw.now) (g.D.Draw.words c.plan.new.draw) c.args.self.now plan)
     (c.as_slice.ensures ∙ c.get.ensures) c.in_ok-plan.ensures in
     let at : copy_at c.args.self.now c.args.copy ≡ Some mail = sym c.copy_at.ensures ∙ ap option_copied c.in-Some.is in
-    delivered_step c.args.copy mail _ _ c.args.self.now c.finish.new.self plan at is c.in_ok-notes.ensures.world c.take.new.self c.in_ok-notes.notes
-    c.requires.accepted c.in_ok-notes.ensures.notes c.take.ensures
+    delivered_step c.args.copy mail _ _ c.args.self.now c.finish.new.self plan at is c.in_ok-happened.ensures.world c.take.new.self c.in_ok-happened.happened.notes
+    c.requires.accepted c.in_ok-happened.ensures.notes c.take.ensures

@@ -21,5 +21,5 @@ returns-clause-ok g c =
     subst (λ (now : ℕ). c.pass.new.self ≡ slice_set w.members place (record m { router = at_moment now m.router })) c.get.ensures.moment (c.pass.ensures.members m here.1) in
     let happened : Happened w.moment Tick m.router (at_moment w.moment m.router) nothing =
     subst (λ (now : ℕ). Happened now Tick m.router (at_moment now m.router) nothing) c.get.ensures.moment (c.pass.ensures.happened m here.1) in
-    passed_step c.args.name place w m c.pass.new.self c.enter.new.trace c.without_words.result c.new.result
-    (g.D.Draw.words c.args.draw.now) c.requires.accepted c.requires.placed here.1 happened moved c.without_words.ensures c.in_ok-enter.ensures.trace c.new.ensures
+    passed_step c.args.name place w m c.pass.new.self c.enter.new.trace c.enter.result c.new.result
+    (g.D.Draw.words c.args.draw.now) c.requires.accepted c.requires.placed here.1 happened moved c.enter.ensures.entry c.enter.ensures.trace c.new.ensures

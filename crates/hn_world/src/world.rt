@@ -100,15 +100,21 @@ impl Parts {
         match event {
             WEvent::Router { name, id } => {
                 let traced = self.define_router(alloc, name, id)?;
-                Ok(unnoted(alloc, traced))
+                return Ok(unnoted(alloc, traced));
             }
             WEvent::Link { name } => {
                 let traced = self.define_link(alloc, name)?;
-                Ok(unnoted(alloc, traced))
+                return Ok(unnoted(alloc, traced));
             }
-            WEvent::Time { moment } => Ok(unnoted(alloc, self.pass(alloc, moment))),
-            WEvent::Drop { copy } => Ok(unnoted(alloc, self.drop_copy(alloc, copy))),
-            WEvent::Deliver { copy } => self.deliver(alloc, copy, draw),
+            WEvent::Time { moment } => {
+                let traced = self.pass(alloc, moment);
+                return Ok(unnoted(alloc, traced));
+            }
+            WEvent::Drop { copy } => {
+                let traced = self.drop_copy(alloc, copy);
+                return Ok(unnoted(alloc, traced));
+            }
+            WEvent::Deliver { copy } => return self.deliver(alloc, copy, draw),
             _ => unreachable!(),
         }
     }

@@ -1,6 +1,6 @@
 //! One exchange: a router asks another one for the network state, and each datagram of this is delivered at once.
 
-ghost use Rattle.std.specs.Prelude.{◌≡◌, ◌⊎◌, ◌+◌, ℕ, List, None, Some, Err, OnOk, OnErr};
+ghost use Rattle.std.specs.Prelude.{◌≡◌, ◌⊎◌, ◌+◌, ℕ, Bool, List, None, Some, Err, OnOk, OnErr};
 ghost use Rattle.hn_base.specs.Words.{Took};
 ghost use Rattle.hn_rules.specs.declared.done.Note.{Note};
 ghost use Rattle.hn_world.specs.declared.event.Traced.{Traced};
@@ -24,6 +24,9 @@ use std::alloc::Global;
 pub trait Exchange {
     ghost parts: { Self → Parts };
 
+    /// Whether the trace is kept for reading.
+    ghost keeps_trace: { Self → Bool };
+
     /// B asks a for the network state (RFC 7787, section 4.2): a Request Network State arrives at the least endpoint of a
     /// that is joined with one of b, by unicast, from the address of the least one of b for it. Endpoints are joined that
     /// are peers of each other and are attached to one link. Then each copy that was made since is delivered, in ascending
@@ -34,7 +37,7 @@ pub trait Exchange {
     /// or no data, collide. So it is where b has room for what a reaches, and has one identifier all the while.
     ///
     /// Whether there is memory or not, it cannot be that an exchange that has a question does not end over a stream of random
-    /// words.
+    /// words. A trace that is kept for reading stays kept.
     ///
     /// # Errors
     ///
@@ -60,7 +63,8 @@ pub trait Exchange {
             → (code ≡ 9) ⊎ (code ≡ 16) }
         ensures starved { result ≡ Err WorldFault.NoMemory
             → IsCutOff a.now b.now (parts self.old) (parts self.new) }
-        ensures exists { unless_exchange a.now b.now (parts self.old) ≡ None → HasAnEnd a.now b.now (parts self.old) };
+        ensures exists { unless_exchange a.now b.now (parts self.old) ≡ None → HasAnEnd a.now b.now (parts self.old) }
+        ensures kept { keeps_trace self.new ≡ keeps_trace self.old };
 }
 
 /// The copy of a number is delivered.
@@ -78,6 +82,7 @@ fn deliver<D: Draw>(
     ensures refused { (code : ℕ) → result ≡ Err (WorldFault.Refused code) → refusal world.old.parts (WEvent.Deliver copy) ≡ Some code }
     ensures err { OnErr result (world.new ≡ world.old) }
     ensures undrawn { (code : ℕ) → result ≡ Err (WorldFault.Refused code) → draw.new ≡ draw.old }
+    ensures kept { world.new.kept ≡ world.old.kept }
 {
     world.apply(alloc, WEvent::Deliver { copy }, draw)?;
     Ok(())
@@ -100,6 +105,7 @@ fn deliver_after<D: Draw>(
         × (refusal world.new.parts next ≡ Some code) × Took (D.words draw.old) (words_of_trace ts) (D.words draw.new) }
     ensures starved { result ≡ Err WorldFault.NoMemory
         → (ts : List Traced) × (next : WEvent) × CopiesAreDelivered (copies + 1) ts (Some next) world.old.parts world.new.parts }
+    ensures kept { world.new.kept ≡ world.old.kept }
 {
     words_join();
     each_event_is_entered();
@@ -122,6 +128,8 @@ fn has_an_end(world: &World, a: &Name, b: &Name)
 
 impl Exchange for World {
     ghost parts = { λ w. w.parts };
+
+    ghost keeps_trace = { λ w. w.kept };
 
     fn sync<D: Draw>(
         &mut self,

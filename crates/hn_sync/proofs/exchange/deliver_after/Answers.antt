@@ -9,8 +9,11 @@ pub loop-delivered-preserved : goal.loop-delivered-preserved
 loop-delivered-preserved g c =
     let told = g.D.Draw.words in
     let at = c.loop-delivered in
-    came_more c.words_join.ensures c.args.copies at.delivered (told c.args.draw.now) (told at.draw)
-    (told c.deliver.new.draw) c.args.world.now.parts at.world.parts c.deliver.new.world.parts c.in_ok-deliver.ensures.ok.0 at.invariant c.in_ok-deliver.ensures.ok.1
+    record {
+      came = came_more c.words_join.ensures c.args.copies at.delivered (told c.args.draw.now) (told at.draw)
+          (told c.deliver.new.draw) c.args.world.now.parts at.world.parts c.deliver.new.world.parts c.in_ok-deliver.ensures.ok.0 at.invariant.came c.in_ok-deliver.ensures.ok.1;
+      kept = c.deliver.ensures.kept ∙ at.invariant.kept;
+    }
 
 pub returns-in_err-deliver-clause-refused : goal.returns-in_err-deliver-clause-refused
 returns-in_err-deliver-clause-refused g c = λ code failed.
@@ -19,7 +22,7 @@ returns-in_err-deliver-clause-refused g c = λ code failed.
     let exit = err_from_is_err_and c.from_residual.result c.from_residual.ensures.1 in
     let is : c.in_err-deliver.field-0.0 ≡ fault.Refused code = sym exit.2 ∙ same_error _ _ (sym exit.1 ∙ failed) in
     refused_then c.args.copies at.delivered (told c.args.draw.now) (told at.draw) c.args.world.now.parts at.world.parts c.deliver.new.world.parts
-    (ap (λ (w : SeenWorld). w.parts) c.in_err-deliver.ensures.err) at.invariant (omega arith)
+    (ap (λ (w : SeenWorld). w.parts) c.in_err-deliver.ensures.err) at.invariant.came (omega arith)
     (told c.deliver.new.draw) (ap told (c.in_err-deliver.ensures.undrawn code (ap Err is))) code (c.in_err-deliver.ensures.refused code (ap Err is))
 
 pub returns-in_err-deliver-clause-starved : goal.returns-in_err-deliver-clause-starved
@@ -27,4 +30,4 @@ returns-in_err-deliver-clause-starved g c = λ failed.
     let told = g.D.Draw.words in
     let at = c.loop-delivered in
     cut_then c.args.copies at.delivered (told c.args.draw.now) (told at.draw) c.args.world.now.parts at.world.parts c.deliver.new.world.parts
-    (ap (λ (w : SeenWorld). w.parts) c.in_err-deliver.ensures.err) at.invariant (omega arith)
+    (ap (λ (w : SeenWorld). w.parts) c.in_err-deliver.ensures.err) at.invariant.came (omega arith)

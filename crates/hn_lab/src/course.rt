@@ -93,19 +93,19 @@ fn opening(alloc: Global, version: Version) -> Result<Vec<u8>, NoMemory>
 }
 
 impl Course {
-    /// A play of a version to which nothing was added.
+    /// A play of a version to which nothing was added. Its world records its trace or not.
     ///
     /// # Errors
     ///
     /// Out of memory.
-    pub(crate) fn new(alloc: Global, version: Version) -> Result<Course, NoMemory>
+    pub(crate) fn new(alloc: Global, version: Version, recorded: bool) -> Result<Course, NoMemory>
         ensures begun { IfOk result (λ course. opened_of course ≡ begun_play version) }
         ensures played { IfOk result IsCourse }
     {
         lines_are_added();
         let source = opening(alloc, version)?;
         Ok(Course {
-            playing: Playing::new(alloc, version, false),
+            playing: Playing::new(alloc, version, recorded),
             version,
             lines: Vec::new(alloc),
             source,

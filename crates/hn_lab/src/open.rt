@@ -41,15 +41,16 @@ impl Model for OpenPlay {
 }
 
 impl OpenPlay {
-    /// A play of a version to which nothing was added.
+    /// A play of a version to which nothing was added. Where it is recorded, its world keeps its trace as long as there is
+    /// memory, so that a log can be written of it.
     ///
     /// # Errors
     ///
     /// Out of memory.
-    pub fn new(alloc: Global, version: Version) -> Result<OpenPlay, NoMemory>
+    pub fn new(alloc: Global, version: Version, recorded: bool) -> Result<OpenPlay, NoMemory>
         ensures { IfOk result (λ play. play ≡ begun_play version) }
     {
-        let course = Course::new(alloc, version)?;
+        let course = Course::new(alloc, version, recorded)?;
         Ok(OpenPlay { course })
     }
 

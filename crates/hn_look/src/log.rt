@@ -87,11 +87,12 @@ fn write_trace<K: Sink>(
     Ok(())
 }
 
-/// Writes the log of a world that records its trace. Where it was not recorded to its end, memory ended.
+/// Writes the log of a world that keeps or records its trace.
 ///
 /// # Errors
 ///
-/// `Failed` if and only if the count of faults of the sink rose; else out of memory. After either a front of the log was written.
+/// `Failed` if and only if the count of faults of the sink rose; else out of memory, as also where the world has no trace to read.
+/// After either a front of the log was written.
 pub fn write_log<K: Sink>(alloc: Global, world: &World, out: &mut K) -> Result<(), IoFault>
     ensures written { OnOk result ((text : List ℕ) × IsLog world.now.parts text × Appends (K.held out.old) (K.held out.new) text) }
     ensures cut { IfErr result (λ fault. (text : List ℕ) × IsLog world.now.parts text × AppendsCut fault (K.held out.old) (K.held out.new) text) }

@@ -1,9 +1,9 @@
 -- Where the wire ends a play, all could as well have been cut right before the copy that failed.
 use Rattle.hn_base.proofs.Names.{◌≡◌, ◌∙◌, ◌⊎◌, ◌<◌, inl, inr, ℕ, zero, suc, Bool, true, false, List, [], ◌∷◌, ◌++◌, Option, None, Some, refl, sym, ap, subst}
-use Rattle.hn_lab.proofs.Names.{Name, IoFault, Note, State, IsChoice, Decides, Line, Datagram, Sends, MailCopy, WEvent, Carried, Same, Lost, Other, Stop, Refused, WireFailed, Cut, Breaks, MayHappen}
+use Rattle.hn_lab.proofs.Names.{Name, IoFault, Note, State, IsChoice, Decides, Line, Datagram, Sends, MailCopy, WEvent, Carried, Same, Lost, Other, Refused, WireFailed, Cut, Breaks, MayHappen}
 use Rattle.hn_lab.proofs.Names.{MakesChoice, Chooses, chosen_event, decided_event, EventNotes, EventEnds, Replaces, ComesTo, IsBroken, DeliveryEnds, injection_for, TreatmentEnds, CopyEnds, HasWaiting}
-use Rattle.hn_lab.proofs.Names.{Flow, Ticks, Passes, Round, Runs, drawn, is_lost, IsKnownRoute, ResultsAreUnique, Noted, Delivered, Sets, OtherEnds, Follows, EndsAs, EndsBy, LineEnds, receiver, injection}
-use Rattle.hn_lab.proofs.Names.{event_of, report_of, LineSaid, LinesDone, Process, Nothing, Unless, ThenProcess, EachProcess, Times, Until, unless_report, IsReport, Report, MayTurn, TurnEnds, Turns}
+use Rattle.hn_lab.proofs.Names.{Flow, Ticks, Passes, Round, Runs, drawn, is_lost, IsKnownRoute, ResultsAreUnique, Noted, Delivered, Sets, OtherEnds, Follows, EndsAs, EndsBy, receiver, injection}
+use Rattle.hn_lab.proofs.Names.{event_of, report_of, LinesDone, Process, Nothing, Unless, ThenProcess, EachProcess, Times, Until, unless_report, IsReport, Report, MayTurn, TurnEnds, Turns}
 use Rattle.hn_lab.proofs.Names.{TickEnds, Solicits, Stage, Route, Mail, Ports, Exchanges, TellsLines, TellsSome, Reports, note_lines, ula_line}
 use Rattle.hn_script.specs.declared.line.Line.TheVariants as line
 use Rattle.hn_world.specs.declared.event.WEvent.TheVariants as event

@@ -1,6 +1,6 @@
 -- Lines that are added to an open play.
 use Rattle.hn_base.proofs.Names.{◌≡◌, ℕ, List, [], ◌∷◌, Option, None, Some, IsSome, inl, inr, refl, subst, true}
-use Rattle.hn_lab.proofs.Names.{EpId, Name, Note, Line, WEvent, Stop, Refused, Report, EventNotes, EventEnds, Sets, OtherEnds, Follows, EndsAs, EndsBy, LineEnds, event_of, report_of, seeded}
+use Rattle.hn_lab.proofs.Names.{EpId, Name, Note, Line, WEvent, Refused, Report, EventNotes, EventEnds, Sets, OtherEnds, Follows, EndsAs, EndsBy, LineEnds, event_of, report_of, seeded}
 use Rattle.hn_lab.proofs.Names.{Process, Unless, ThenProcess, EachProcess, ReportEnds, MayTurn, TurnEnds, starting, ended_sending, ending_all, sender_endpoints, Stage, Mail}
 use Rattle.hn_script.specs.declared.line.Line.TheVariants as line
 use Rattle.hn_world.specs.declared.event.WEvent.TheVariants as event

@@ -1,5 +1,5 @@
 -- Memory ends after a datagram was taken.
-use Rattle.hn_base.proofs.Names.{◌≡◌, ◌∙◌, ◌≤◌, ◌+◌, inl, inr, ℕ, List, length, take, min, Option, Some, refl, subst, arith, length-take, bytes_eq, bytes_eq-Decides, cases_Bool, IfSome}
+use Rattle.hn_base.proofs.Names.{◌≡◌, ◌≤◌, ◌+◌, inl, inr, ℕ, List, take, Option, Some, refl, subst, arith, length-take, bytes_eq, bytes_eq-Decides, cases_Bool, IfSome}
 use Rattle.hn_wire.specs.declared.datagram.Datagram.{Datagram}
 use Rattle.hn_wire.specs.Wires.{Arrived, Sends, TakesAt, arrived}
 use Rattle.hn_lab.proofs.Names.{Carried, Other, Same}

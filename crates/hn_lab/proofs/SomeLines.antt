@@ -1,5 +1,5 @@
 -- By mail each line ends, and lines have a play: it cannot be that they have none.
-use Rattle.hn_base.proofs.Names.{◌≡◌, ◌-◌, ◌*◌, ◌/◌, ◌%◌, ◌<◌, ◌^◌, ℕ, List, [], ◌∷◌, Option, None, Some, refl, ap, inl, arith, All, div_below, pow_pos, IsByte, Some! }
+use Rattle.hn_base.proofs.Names.{◌≡◌, ◌-◌, ◌*◌, ◌/◌, ◌%◌, ◌<◌, ◌^◌, ℕ, List, [], ◌∷◌, Option, None, Some, refl, ap, inl, arith, All, div_below, pow_pos, IsByte}
 use Rattle.hn_lab.proofs.Names.{EpId, Name, Version, some_then, Note, IsLimited, Line, WEvent, End, Sending, DeliveryEnds, EventEnds, EventNotes, ComesToAnEnd, GoesOn, IsFit, IsOn, ScriptHasAPlay}
 use Rattle.hn_lab.proofs.Names.{stop_by, IsUnbroken, EndsAs, EndsBy, Follows, LineEnds, Noted, OtherEnds, Sets, event_of, injection, receiver, report_of, seeded, begun, IsPlay, Process, ThenProcess}
 use Rattle.hn_lab.proofs.Names.{IsReport, unless_elects, unless_report, refused_line, Report, Solicits, ended_sending, ending_all, starting, Stage, Mail, telling, TellsLines, note_lines, ula_line}

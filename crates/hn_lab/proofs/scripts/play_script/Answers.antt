@@ -1,5 +1,5 @@
 use Rattle.hn_base.proofs.Names.{◌∙◌, ℕ, List, Option, Some, ap, sym, subst, Appends}
-use Rattle.hn_lab.proofs.Names.{world_parts, HasDonePlay, HasRefusal, Plays, Mail, route_of}
+use Rattle.hn_lab.proofs.Names.{world_parts, HasDonePlay, HasRefusal, Plays, route_of}
 use Rattle.hn_lab.proofs.scripts.play_script.Goals as goal
 
 pub returns-in-None-clause-plays : goal.returns-in-None-clause-plays

@@ -1,5 +1,5 @@
-use Rattle.hn_base.proofs.Names.{ℕ, List, Option, refl, ap, subst, lit<, arith, Appends}
-use Rattle.hn_lab.proofs.Names.{world_parts, IsLabOf, IsLabRun, StatusOfScript, Mail, route_of}
+use Rattle.hn_base.proofs.Names.{ℕ, List, refl, ap, subst, lit<, Appends}
+use Rattle.hn_lab.proofs.Names.{world_parts, IsLabOf, StatusOfScript, route_of}
 use Rattle.hn_lab.proofs.PlayScripts.{lab_run, starved_run, appends_nothing, among_all}
 use Rattle.hn_lab.proofs.scripts.read_and_play.Goals as goal
 

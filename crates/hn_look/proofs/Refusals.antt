@@ -1,9 +1,10 @@
 -- The last line of the transcript of a script that was refused.
-use Rattle.hn_base.proofs.Names.{◌≡◌, ◌≢◌, ◌∙◌, ◌+◌, ◌-◌, ◌/◌, ◌%◌, ◌<◌, ◌≤◌, ℕ, zero, suc, Bool, true, false, not, List, [], ◌∷◌, ◌++◌, Option, Some, length, length-append, get_or, take, drop}
+use Rattle.hn_base.proofs.Names.{◌≡◌, ◌≢◌, ◌⊎◌, ◌∙◌, ◌+◌, ◌-◌, ◌/◌, ◌%◌, ◌<◌, ◌≤◌, ℕ, zero, suc, Bool, true, false, not, List, [], ◌∷◌, ◌++◌, Option, Some, length, length-append, get_or, take, drop}
 use Rattle.hn_base.proofs.Names.{⊎_elim, lit<, inl, inr, refl, sym, ap, subst, codes, arith, ◌==◌, ◌&&◌, if◌then◌else◌, decimal, digits_onto, digit_glyph, list_all, flat_map-append}
 use Rattle.hn_base.proofs.Names.{get_or-append_right, get_or-append_seam, lt-ltb, ne_eqb, eqb-true, cases_lt, drop_at, take_rest, mod_below}
-use Rattle.hn_look.proofs.Names.{append-nil, Parts, EndsRefused, IsLookRun}
+use Rattle.hn_look.proofs.Names.{append-nil, IoFault, Parts, EndsRefused, IsLookRun}
 use Rattle.std.specs.Fmt.{digits}
+use Rattle.std.specs.Prelude.{Result}
 use Rattle.std.proofs.lemmas.List.Folds.{list_all-append}
 use Rattle.memchr.specs.Find.{NoneAfter, Nowhere, Passes, is_byte}
 use Rattle.hn_lab.specs.Lab.{IsLabRun, IsLabOf, status_of}
@@ -13,6 +14,7 @@ use Rattle.hn_lab.specs.Stage.{Stage, Mail}
 use Rattle.hn_lab.specs.Told.{Told, told, bytes_of}
 use Rattle.hn_lab.specs.declared.end.End.{End}
 use Rattle.hn_lab.specs.declared.end.End.TheVariants.{Done, Refused, WireFailed}
+use Rattle.hn_look.specs.Look.{IsLook, Looked, looked_status}
 use Rattle.hn_look.proofs.Streams.{Appends-none}
 
 -- ---- the line has one `r`
@@ -171,4 +173,26 @@ unseen Starving sees left world status held after before none run six = record {
   transcript = after;
   plays = subst (λ (xs : List ℕ). IsLabRun Mail Mail left status world (Some xs) (Some after)) none run;
   comes = inl (six, six, Appends-none before);
+}
+
+not_three : (played : ℕ) → (played ≡ 0) ⊎ (played ≡ 2) → played ≢ 3
+not_three played (inl done) three = omega arith
+not_three played (inr two) three = omega arith
+
+-- a look at the world of a play that was done, or refused
+pub looked_at : (Starving : Type 0) (sees : Parts → ℕ → List ℕ → Type 0) (left : Option (List ℕ)) (world : Option Parts) (played : ℕ) (held after transcript : List ℕ)
+    (before last : Option (List ℕ)) (status : ℕ) (answer : Result ℕ IoFault) → held ≡ [] → transcript ≡ after
+    → (played ≢ 3 → IsLabRun Mail Mail left played world (Some held) (Some after)) → (played ≡ 0) ⊎ (played ≡ 2)
+    → status ≡ looked_status answer → Looked Starving (IsLook sees played world transcript) answer before last
+    → IsLookRun Starving sees left status before last
+looked_at Starving sees left world played held after transcript before last status answer none same run ended is looked = record {
+  played = played;
+  world = world;
+  transcript = after;
+  plays = subst (λ (xs : List ℕ). IsLabRun Mail Mail left played world (Some xs) (Some after)) none (run (not_three played ended));
+  comes = inr (record {
+    answer = answer;
+    status_is = is;
+    looked = subst (λ (xs : List ℕ). Looked Starving (IsLook sees played world xs) answer before last) same looked;
+  });
 }

@@ -1,5 +1,5 @@
 -- A home is calm if no premise is missing, and only then.
-use Rattle.hn_base.proofs.Names.{◌≡◌, ◌↔◌, ◌∙◌, ℕ, ◌-◌, ◌<◌, true, false, IsTrue, List, [], ◌∷◌, Option, None, Some, IfSome, All, All-contains, Contains, length, is_some, false≢true}
+use Rattle.hn_base.proofs.Names.{◌≡◌, ◌↔◌, ◌∙◌, ℕ, ◌-◌, ◌<◌, true, IsTrue, List, [], ◌∷◌, Option, None, Some, IfSome, All, All-contains, Contains, length, is_some, false≢true}
 use Rattle.hn_base.proofs.Names.{inl, inr, refl, sym, ap, subst, arith, slice_get, slice_get_read, slice_get-get_or, slice_get_within, get_or, get_or_from_slice_get, position-Some}
 use Rattle.hn_base.proofs.Elements.{all_of}
 use Rattle.hn_base.proofs.PartsAtPlaces.{contains_at}

@@ -1,4 +1,4 @@
-use Rattle.hn_base.proofs.Names.{◌≡◌, ◌⊎◌, refl, rules}
+use Rattle.hn_base.proofs.Names.{◌≡◌, ◌⊎◌, rules}
 use Rattle.hn_look.proofs.Names.{world_parts}
 use Rattle.hn_look.proofs.Looks.{status_of_look, without_wire}
 use Rattle.hn_look.specs.Look.{Sees, MayStarve}

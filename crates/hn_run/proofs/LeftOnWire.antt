@@ -1,5 +1,5 @@
 -- What `udp` leaves where the wire failed.
-use Rattle.hn_base.proofs.Names.{◌≡◌, ◌∙◌, ◌-◌, inl, inr, ℕ, List, Option, Some, refl, sym, subst, arith, IsWhole}
+use Rattle.hn_base.proofs.Names.{◌≡◌, ◌∙◌, inl, inr, ℕ, List, Option, Some, refl, sym, subst, arith, IsWhole}
 use Rattle.hn_run.proofs.Names.{IsLabRun, IsNumberText, Parts, IsFormOf, Udp}
 use Rattle.hn_io.specs.declared.fault.IoFault.TheVariants.{NoMemory}
 use Rattle.hn_lab.specs.declared.end.End.{End}

@@ -1,0 +1,3 @@
+mod Names
+pub mod Held
+pub mod Parts

@@ -1,5 +1,5 @@
-/* The memory of libhn_router_c.a: three functions over one allocator, here malloc. They are all that the library asks of a
- * program but memcpy, memmove and memset. Link this file with the library, or one of your own in its place.
+/* The memory of libhn_router_c.a and of libhn_lab_c.a: three functions over one allocator, here malloc. They are all that a
+ * library asks of a program but memcpy, memmove and memset. Link this file with the library, or one of your own in its place.
  *
  * A block is aligned to each power of two up to 16 that divides its size. A block of no bytes is one, too. */
 #include <stdbool.h>

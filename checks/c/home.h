@@ -2,21 +2,12 @@
 #ifndef HOME_H
 #define HOME_H
 
+#include "check.h"
 #include "hn_router.h"
 
-#include <stdio.h>
-#include <stdlib.h>
 #include <string.h>
 
 enum { LINK = 1, MOST_ROUTERS = 4, MOST_WAITING = 256, MOST_BYTES = 65507 };
-
-#define CHECK(holds)                                                      \
-    do {                                                                  \
-        if (!(holds)) {                                                   \
-            printf("%s:%d: this does not hold: %s\n", __FILE__, __LINE__, #holds); \
-            exit(1);                                                      \
-        }                                                                 \
-    } while (0)
 
 /* Routers whose endpoint 1 is on one link; router i has the address fe80::i+1. */
 struct home {

@@ -1,0 +1,5 @@
+pub mod Named
+pub mod Played
+pub mod ToldCopies
+pub mod ToldStates
+pub mod ToldTexts

@@ -1,6 +1,6 @@
 """Tests of a home of HNCP routers, to copy and to change. pytest runs them: python3 -m pytest examples/test_a_home.py
 
-They need the package rulercress (`pip install ./python` of the repository) and the programs hncp and hnlook. Where a test of
+They need the package rulercress (`pip install ./python` of the repository) and what plays homes (python/README.md). Where a test of
 one home fails, its script and the page of its timeline lie beside this file.
 """
 import os

@@ -1,4 +1,4 @@
-"""Homes of HNCP routers (RFC 7788), driven by hand over the proved programs hncp and hnlook.
+"""Homes of HNCP routers (RFC 7788), driven by hand over the proved laboratory.
 
     from rulercress import Home
 
@@ -11,8 +11,8 @@
     home.until(lambda: gateway.sound, within=40)
     home.save('one_way_loss.script')
 
-The programs are those of the variables HNCP and HNLOOK; else those built in the clone of which the package is a part; else
-those on the path.
+The laboratory is the shared object of the variable HN_LAB, or one that is found without it; else the programs hncp and hnlook
+play. README.md says where they are looked for. Both come to the same.
 """
 from importlib import import_module
 from typing import TYPE_CHECKING, Any

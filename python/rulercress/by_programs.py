@@ -12,12 +12,11 @@ from .courses import Course
 from .errors import Refused
 from .log import CutShort, Events, Log, Sent
 from .outline import Outline
-from .play import Judge, Play
+from .play import REPORTS, Judge, Play, deliver, words_of
 
 BEFORE_PLAY = (1, 2, 3, 4, 5, 6, 15)                   # codes that are looked for before anything happens
 PARTLY = ('run', 'flow', 'sync', 'address', 'ula')     # lines that can be refused when a part has happened
 LATER = (9, 16, 19)                                    # and the codes with which that may be so
-REPORTS = frozenset('show hash used prefixes elect advert audit compare mail addresses addressed ulas'.split())
 LISTS = ('used', 'prefixes', 'addresses')              # reports with a count, and a line for each
 MARK = 'mail'                                          # a report that parts what was written before from what is asked
 FEW_ROUTERS = 16                                       # in a home of so many all routers are asked for a report at once
@@ -40,10 +39,6 @@ def answers_of(reports: Sequence[str], texts: Sequence[str]) -> Dict[str, List[s
         found[report] = list(texts[at:end])
         at = end
     return found
-
-
-def _deliver(copy: Sent) -> None:
-    """The fate of a copy that nothing delays."""
 
 
 class ProgramPlay(Play):
@@ -95,10 +90,7 @@ class ProgramPlay(Play):
         """The words of a line that may be played."""
         if self._over:
             raise self._over
-        words = [word for word in text.split(' ') if word]
-        if not words or words[0].startswith('#') or '\n' in text:
-            raise ValueError(f'{text!r} is no line of a script that does something')
-        return words
+        return words_of(text)
 
     def _is_sure(self, words: Sequence[str]) -> bool:
         if words[0] not in ('deliver', 'drop'):
@@ -250,7 +242,7 @@ class ProgramPlay(Play):
         self._read_log()
         self._course = Course(self._outline, self._log, self._late, self._keep)
         try:
-            self._course.go(end, step, judge or _deliver, self._logged)
+            self._course.go(end, step, judge or deliver, self._logged)
         except CutShort as cut:
             raise Refused(cut.code, len(self._lines) + 1, f'run {end} {step}') from None
         finally:

@@ -10,7 +10,7 @@ from typing import Callable, Dict, Iterator, List, Tuple
 
 from .log import Event, Events, Log
 from .outline import Outline
-from .play import DROP, Judge
+from .play import DROP, Judge, line_of
 
 FEW_ROUNDS = 16         # are tried ahead at first, and after a try of which little held
 MOST_ROUNDS = 4096
@@ -77,12 +77,10 @@ class Course:
         """Asks of a copy, unless it cannot be delivered. The line for it; a copy that is delayed has none yet."""
         copy = self.log.copies[number - 1]
         fate = judge(copy) if self.outline.takes(copy.receiver, copy.endpoint) else DROP
-        if fate is DROP:
-            return f'drop {number}'
-        if fate is None or fate <= self.outline.moment:
-            return f'deliver {number}'
-        self.late[number] = fate
-        return ''
+        text = line_of(number, fate, self.outline.moment)
+        if not text:
+            self.late[number] = fate
+        return text
 
     def tried(self, end: int, step: int) -> Iterator[Tuple[str, Kind]]:
         """The lines of a try."""

@@ -4,7 +4,7 @@ import os
 import sys
 from typing import Callable, Dict, Iterator, List, NamedTuple, Optional, Union
 
-from .by_programs import ProgramPlay
+from . import players
 from .errors import NotReached, Problem
 from .log import Sent
 from .parts import Copy, Link, Place, Router
@@ -37,7 +37,7 @@ class Home:
     """
 
     def __init__(self, seed: Optional[int] = None, loss: int = 0, version: int = 2, play: Optional[Play] = None) -> None:
-        self.play: Play = play or ProgramPlay(version)
+        self.play: Play = play or players.home(version)
         self.named: Dict[str, Router] = {}
         self.links: Dict[str, Link] = {}
         self._last: List[str] = []              # what was told last
@@ -189,7 +189,7 @@ class Home:
         self.play.add(f'sync {asked.name} {asking.name}')
 
     def line(self, text: str) -> List[str]:
-        """Plays any line of the language, and gives the lines that it writes: a play. Lines that make a router or a link, or
+        """Plays any line of the language, and gives the lines that it writes. Lines that make a router or a link, or
         start, stop, attach or detach one, are for the methods."""
         if text.split()[:1] and text.split()[0] in ('router', 'link', 'attach', 'detach', 'start', 'stop'):
             raise ValueError(f'{text!r}: there is a method for it')
@@ -217,12 +217,12 @@ class Home:
 
     @property
     def copies(self) -> List[Copy]:
-        """All copies that were made, by number: a play if a line was played since the last question."""
+        """All copies that were made, by number."""
         return [Copy(self, sent) for sent in self.play.copies()]
 
     @property
     def waiting(self) -> List[Copy]:
-        """The copies that wait, in order of number. So does one that is delayed. It costs as much as `copies`."""
+        """The copies that wait, in order of number. So does one that is delayed."""
         numbers = self.play.waiting()
         return [Copy(self, self.play.copies()[number - 1]) for number in numbers]
 
@@ -256,8 +256,7 @@ class Home:
         With `drop` or `delay` each copy that can be delivered is asked of once, in order of number: a copy of which `drop`
         says something true is lost, and one of which `delay` says seconds comes in the first round so much later. This is
         played by lines `time`, `tick`, `deliver` and `drop`; the home's own `loss` takes no copy of these. Without them a
-        line `run` is played, and the cost is that of a line. With them the cost is a play for each time at which copies are
-        dropped or delayed.
+        line `run` is played. By the programs they cost a play for each time at which copies are dropped or delayed.
 
         Notes of routers are written by `deliver` lines and not by `run`, so a home with `drop` has a longer transcript.
         """
@@ -280,8 +279,8 @@ class Home:
         """Runs until the condition holds, and gives how many seconds that took.
 
         The condition is asked at once, and then each `every` seconds. If it does not hold `within` so many seconds, NotReached
-        is raised, a failed assertion. Without `drop` and `delay` the reports of the condition are played ahead, so some looks
-        cost one play; `why`, `table` and `copies` cost a play each time.
+        is raised, a failed assertion. By the programs, without `drop` and `delay`, the reports of the condition are played ahead, so
+        some looks cost one play; `why`, `table` and `copies` cost a play each time.
         """
         begin, span = self.play.moment, milliseconds(within)
         pace = max(1, milliseconds(every))

@@ -21,8 +21,8 @@ class Link:
 class Router:
     """A router of a home.
 
-    What it tells is of the moment, and leaves no line in the script. Each first question after a line costs a play of the
-    home so far; further questions of the same moment cost none where they were asked at earlier moments, too.
+    What it tells is of the moment, and leaves no line in the script. By the programs each first question after a line costs a
+    play of the home so far; further questions of the same moment cost none where they were asked at earlier moments, too.
     """
 
     def __init__(self, home: 'Home', name: str, identifier: int) -> None:
@@ -85,12 +85,12 @@ class Router:
 
     @property
     def why(self) -> Why:
-        """Why it is not settled and quiet, by `hnlook why`: a play for each question."""
+        """Why it is not settled and quiet, as `hnlook why` tells it."""
         return why_of(self.home.look('why', self.name))
 
     @property
     def table(self) -> List[str]:
-        """What it holds, as the lines of `hnlook table`: a play for each question."""
+        """What it holds, as the lines of `hnlook table`."""
         return self.home.look('table', self.name)
 
     def external(self, prefix: str, valid: int = 7200, preferred: int = 3600) -> None:
@@ -140,7 +140,7 @@ class Copy:
 
     @property
     def decoded(self) -> List[Item]:
-        """Its TLVs, by `hncp decode`: a process for each datagram that was not decoded before."""
+        """Its TLVs, as `hncp decode` tells them."""
         return decode(self.bytes)
 
     def has(self, name: str) -> bool:

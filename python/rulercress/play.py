@@ -13,6 +13,26 @@ DROP = Drop()
 # What becomes of a copy: nothing is delivery at once, a number the moment of its delivery in milliseconds.
 Fate = Union[None, int, Drop]
 Judge = Callable[[Sent], Fate]
+REPORTS = frozenset('show hash used prefixes elect advert audit compare mail addresses addressed ulas'.split())
+
+
+def deliver(copy: Sent) -> None:
+    """The fate of a copy that nothing delays."""
+
+
+def line_of(number: int, fate: Fate, moment: int) -> str:
+    """The line for a copy of a fate. A copy that is delayed has none yet."""
+    if isinstance(fate, Drop):
+        return f'drop {number}'
+    return f'deliver {number}' if fate is None or fate <= moment else ''
+
+
+def words_of(text: str) -> List[str]:
+    """The words of a line that does something. Another text is an error of the caller."""
+    words = [word for word in text.split(' ') if word]
+    if not words or words[0].startswith('#') or '\n' in text:
+        raise ValueError(f'{text!r} is no line of a script that does something')
+    return words
 
 
 class Play(abc.ABC):

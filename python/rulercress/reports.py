@@ -2,7 +2,7 @@
 import functools
 from typing import Dict, List, NamedTuple, Optional, Sequence
 
-from . import programs
+from . import players
 from .errors import Malformed
 
 
@@ -109,7 +109,7 @@ def item_of(line: str) -> Item:
 
 @functools.lru_cache(maxsize=4096)
 def _decoded(data: bytes) -> 'tuple[Item, ...]':
-    lines = programs.run('hncp', ['decode'], data.hex().encode())[0].splitlines()
+    lines = players.decode(data).splitlines()
     if lines[0].startswith('malformed '):
         said = fields_of(lines[0].split())
         raise Malformed(int(said['place']), int(said['why']))
@@ -117,6 +117,6 @@ def _decoded(data: bytes) -> 'tuple[Item, ...]':
 
 
 def decode(data: bytes) -> List[Item]:
-    """The TLVs of a datagram, by `hncp decode`: a process for each datagram that was not decoded before. Bytes that are no
-    list of TLVs raise Malformed."""
+    """The TLVs of a datagram, as `hncp decode` tells them. Without the library it is a process for each datagram that was not
+    decoded before. Bytes that are no list of TLVs raise Malformed."""
     return list(_decoded(bytes(data)))

@@ -1,11 +1,14 @@
 """Many random homes that are driven by hand: does the script that each leaves say what it did?
 
     cd python && python3 -m tests.driven -n 1000
+
+Where the library is found it plays each home, and the programs play it beside: both have to come to the same.
 """
 import sys
 from typing import Optional
 
-from rulercress import campaign
+from rulercress import campaign, library
+from rulercress.by_programs import ProgramPlay
 from rulercress.log import Log, events_of
 
 from . import homes
@@ -55,11 +58,27 @@ def check_line_by_line(driven: homes.Driver) -> None:
     assert driven.told == slow.told, 'other reports than line by line'
 
 
+def check_programs(driven: homes.Driver) -> None:
+    """What the library played is what the programs play: the same lines, copies and reports."""
+    other = homes.Driver(driven.seed, ProgramPlay(2)).go(count_of(driven.seed))
+    assert driven.home.script == other.home.script, 'another script than by the programs'
+    assert (driven.asked, driven.dropped, driven.delayed) == (other.asked, other.dropped, other.delayed), 'other copies were judged than by the programs'
+    assert driven.told == other.told, 'other reports than by the programs'
+    assert driven.home.log == other.home.log, 'another log than by the programs'
+    assert list(driven.home.play.copies()) == list(other.home.play.copies()), 'other copies than by the programs'
+    for router in driven.home.routers:
+        for form in ('why', 'table') if router.running else ('table',):
+            assert driven.home.look(form, router.name) == other.home.look(form, router.name), f'another {form} than by the programs'
+
+
 def differs(seed: int) -> Optional[str]:
     """Drives random homes by hand, with loss by direction, delays and cuts. Finds the seeds with which hncp lab plays the
     script of a home to another transcript than the home's, the script says something else than was done and told, or a home
-    that is driven line by line has another script."""
-    check_line_by_line(check_script(seed))
+    that is driven line by line has another script. So it does where the library and the programs come to other homes."""
+    driven = check_script(seed)
+    check_line_by_line(driven)
+    if library.found():
+        check_programs(driven)
     return None
 
 

@@ -1,10 +1,11 @@
 """Random homes that are driven by hand: loss by direction, delays, cuts, restarts and steps of many lengths."""
 import random
 import subprocess
-from typing import Dict, List, Tuple
+from typing import Dict, List, Optional, Tuple
 
 from rulercress import Copy, Home, Router
 from rulercress import programs
+from rulercress.play import Play
 
 WAYS = ('judged', 'judged', 'judged', 'plain', 'cut', 'mend', 'stop', 'start', 'inject', 'uplink', 'loss', 'flow')
 
@@ -16,12 +17,12 @@ def played(script: str) -> str:
 
 
 class Driver:
-    """Plays the choices of a seed. `run` is how time passes while copies are judged."""
+    """Plays the choices of a seed. `run` is how time passes while copies are judged; `play` is what plays, if it is given."""
 
-    def __init__(self, seed: int) -> None:
+    def __init__(self, seed: int, play: Optional[Play] = None) -> None:
         self.seed = seed
         self.chance = random.Random(seed)
-        self.home = Home(seed=seed)
+        self.home = Home(seed=seed, play=play)
         self.asked: List[int] = []                       # the numbers of the copies that were judged, in order
         self.dropped: List[int] = []                     # of those, the ones that were lost
         self.delayed: List[int] = []                     # and the ones that came late
@@ -116,8 +117,8 @@ class Driver:
 class Witness(Driver):
     """The same choices. After each it asks reports, which leave no line, and remembers the transcript until then."""
 
-    def __init__(self, seed: int) -> None:
-        super().__init__(seed)
+    def __init__(self, seed: int, play: Optional[Play] = None) -> None:
+        super().__init__(seed, play)
         self.seen: List[Tuple[int, str, List[str], List[str]]] = []    # how many lines, their transcript, reports, answers
 
     def look(self) -> None:
@@ -141,8 +142,8 @@ class Witness(Driver):
 class SlowDriver(Driver):
     """The same choices. Time passes line by line: after each it is asked which copies wait, as the language has it."""
 
-    def __init__(self, seed: int) -> None:
-        super().__init__(seed)
+    def __init__(self, seed: int, play: Optional[Play] = None) -> None:
+        super().__init__(seed, play)
         self.late: Dict[int, int] = {}           # the moment at which a delayed copy is due, in milliseconds
 
     def run(self, seconds: float, step: float, judged: bool = True) -> None:

@@ -52,7 +52,7 @@ class Campaigns(unittest.TestCase):
         self.assertRegex(str(failed), '3 of 30 seeds failed\nseed 10: ')
 
     def test_a_program_that_is_missing_ends_it(self) -> None:
-        with unittest.mock.patch.dict('os.environ', {'HNCP': '/nothing'}), self.assertRaisesRegex(Problem, 'seed 3: there is no program'):
+        with unittest.mock.patch.dict('os.environ', {'HN_LAB': '', 'HNCP': '/nothing'}), self.assertRaisesRegex(Problem, 'seed 3: there is no program'):
             many(moment_of_rest, SEEDS, processes=2)
 
     def test_a_function_that_ends_its_process_is_told(self) -> None:

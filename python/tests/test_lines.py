@@ -137,9 +137,9 @@ class Lines(unittest.TestCase):
             home.line('mail')
 
     def test_a_program_that_is_missing_is_named(self) -> None:
-        home = Home()
         known = {name: programs.path_of(name) for name in ('hncp', 'hnlook')}
-        with unittest.mock.patch.dict('os.environ', {'HNCP': '/nothing', 'HNLOOK': '/bin/false'}):
+        with unittest.mock.patch.dict('os.environ', {'HN_LAB': '', 'HNCP': '/nothing', 'HNLOOK': '/bin/false'}):
+            home = Home()
             with self.assertRaisesRegex(Problem, 'set HNCP to the path of hncp'):
                 home.line('mail')
             with self.assertRaisesRegex(Problem, 'hnlook log ended with status 1'):

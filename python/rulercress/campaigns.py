@@ -1,12 +1,13 @@
 """Many homes: a function of a seed, over a pool of processes."""
 import argparse
+import functools
 import multiprocessing
 import os
 import sys
 import traceback
 from concurrent import futures
 from concurrent.futures.process import BrokenProcessPool
-from typing import Callable, Dict, Iterator, List, Optional, Sequence, Tuple, TypeVar
+from typing import Any, Callable, Dict, Iterator, List, Optional, Sequence, Tuple, TypeVar
 
 from .errors import Problem, SeedsFailed
 from .shards import processors, shard
@@ -17,19 +18,39 @@ SHARES = 64               # into which the seeds of a process are parted, so tha
 # A seed, its result, what was raised as text, and whether that ends the campaign.
 Outcome = Tuple[int, object, Optional[str], bool]
 
-_function: Optional[Callable[[int], object]] = None     # of the pool that is at work; processes that fork inherit it
+_function: Optional[Callable[[Any], object]] = None     # of the pool that is at work; processes that fork inherit it
 
 
-def _begin(function: Callable[[int], object]) -> None:
+def _begin(function: Callable[[Any], object]) -> None:
     global _function
     _function = function
 
 
-def _outcome(seed: int) -> Outcome:
-    """What the function comes to with a seed. Whatever it raises is told, so that no process of the pool is lost."""
+def _call(value: object) -> Any:
     assert _function is not None
+    return _function(value)
+
+
+def in_processes(function: Callable[[Any], Any], values: Sequence[Any], processes: int) -> Iterator[Any]:
+    """The function of each value, in order, by so many processes."""
+    if processes == 1 or len(values) < 2:
+        yield from map(function, values)
+        return
+    # A process that forks has the function, be it a lambda. Where none can fork the function is sent, and has to be of a module.
+    way = 'fork' if 'fork' in multiprocessing.get_all_start_methods() else None
+    pool = futures.ProcessPoolExecutor(min(processes, len(values)), multiprocessing.get_context(way), _begin, (function,))
     try:
-        return seed, _function(seed), None, False
+        yield from pool.map(_call, values, chunksize=max(1, len(values) // (processes * SHARES)))
+    except BrokenProcessPool:
+        raise Problem('a process of the pool was ended') from None
+    finally:
+        pool.shutdown(cancel_futures=True)
+
+
+def _outcome(function: Callable[[int], object], seed: int) -> Outcome:
+    """What the function comes to with a seed. Whatever it raises is told, so that no process of the pool is lost."""
+    try:
+        return seed, function(seed), None, False
     except (Problem, MemoryError) as problem:
         return seed, None, str(problem), True
     except KeyboardInterrupt:
@@ -40,23 +61,6 @@ def _outcome(seed: int) -> Outcome:
         return seed, None, f'{type(raised).__name__}: {text} ({os.path.basename(last.filename)}:{last.lineno})', False
 
 
-def _outcomes(function: Callable[[int], object], seeds: Sequence[int], processes: int) -> Iterator[Outcome]:
-    """The outcome of each seed, in order."""
-    if processes == 1 or len(seeds) < 2:
-        _begin(function)
-        yield from map(_outcome, seeds)
-        return
-    # A process that forks has the function, be it a lambda. Where none can fork the function is sent, and has to be of a module.
-    way = 'fork' if 'fork' in multiprocessing.get_all_start_methods() else None
-    pool = futures.ProcessPoolExecutor(min(processes, len(seeds)), multiprocessing.get_context(way), _begin, (function,))
-    try:
-        yield from pool.map(_outcome, seeds, chunksize=max(1, len(seeds) // (processes * SHARES)))
-    except BrokenProcessPool:
-        raise Problem('a process of the pool was ended') from None
-    finally:
-        pool.shutdown(cancel_futures=True)
-
-
 def _progress(done: int, count: int, failed: int) -> None:
     if sys.stderr.isatty():
         words = f'{done} of {count} seeds' + (f', {failed} failed' if failed else '')
@@ -65,8 +69,8 @@ def _progress(done: int, count: int, failed: int) -> None:
 
 def _results(function: Callable[[int], Result], seeds: Sequence[int], processes: Optional[int]) -> Iterator[Tuple[int, Result, Optional[str]]]:
     """Seed, result and what was raised, in order of seeds, with a line of progress."""
-    failed = 0
-    for done, (seed, result, raised, is_end) in enumerate(_outcomes(function, seeds, processes or processors()), 1):
+    outcome, failed = functools.partial(_outcome, function), 0
+    for done, (seed, result, raised, is_end) in enumerate(in_processes(outcome, seeds, processes or processors()), 1):
         if is_end:
             raise Problem(f'seed {seed}: {raised}')
         failed += raised is not None

@@ -23,7 +23,7 @@ def main(words=None):
     given = common.parser(__doc__, [captures.PORTS, captures.CAPTURE])
     words = given.parse_args(words)
     ports = captures.ports_of(given, words)
-    common.program()
+    common.must_play('hncp')
     capture = captures.Capture(words.capture, ports)
     for datagram in captures.decoded_ahead(capture):
         print('\n'.join(text_of(datagram)))

@@ -15,7 +15,6 @@ With -n so many seeds are played for each loss. With --shard K/N it plays part K
 makes the text of the whole from the texts of all parts.
 """
 import re
-import subprocess
 
 from ..tools import common
 from ..tools.common import Problem
@@ -47,14 +46,11 @@ def home(loss, seed):
 
 
 def play(program, lines):
-    """The lines of the transcript."""
-    played = subprocess.run([program, 'lab'], input=common.joined(lines), stdout=subprocess.PIPE, stderr=subprocess.PIPE)
-    text = played.stdout.decode('ascii', 'replace').splitlines()
+    """The lines of the transcript: by the program that was named, if one was."""
+    text = common.ask(program, [program, 'lab'], common.joined(lines))[0] if program else common.play(lines)
     refused = common.refusal(text)
     if refused:
-        raise Problem(f'{program} refused line {refused[0]} of the home by code {refused[1]}; see tools/explain')
-    if played.returncode != 0:
-        raise Problem(f'{program} ended with status {played.returncode}')
+        raise Problem(f'{program or "hncp"} refused line {refused[0]} of the home by code {refused[1]}; see tools/explain')
     return text
 
 
@@ -62,7 +58,7 @@ def audits(program, text, count):
     """What was said of the first router, look by look."""
     said = [line[len('audit r1 '):] for line in text if line.startswith('audit r1 settled=')]
     if len(said) != count:
-        raise Problem(f'{program} did not answer each look')
+        raise Problem(f'{program or "hncp"} did not answer each look')
     return said
 
 
@@ -70,7 +66,7 @@ def numbers(program, text):
     """The sequence numbers of all routers, look by look."""
     shown = re.findall(r'^show r\d+ id=\S+ number=(\d{1,20}) ', '\n'.join(text), re.MULTILINE)
     if len(shown) != LOOKS * ROUTERS:
-        raise Problem(f'{program} did not answer each look')
+        raise Problem(f'{program or "hncp"} did not answer each look')
     return [[int(each) for each in shown[at:at + ROUTERS]] for at in range(0, len(shown), ROUTERS)]
 
 
@@ -101,7 +97,8 @@ def after(program, loss, seed, start):
 def counts(program, start, seeds):
     """For each loss and seed: what the looks found, how often somebody published, and when it is done without loss."""
     cases = [(loss, seed) for loss in LOSSES for seed in seeds]
-    return dict(zip(cases, common.in_order(lambda case: (*looked(program, *case, start), after(program, *case, start)), cases)))
+    in_order = common.in_order if program else common.plays_in_order
+    return dict(zip(cases, in_order(lambda case: (*looked(program, *case, start), after(program, *case, start)), cases)))
 
 
 def read_part(path):
@@ -150,12 +147,14 @@ def lines_of(found, start):
 
 
 def words_of(given, words):
-    """The program and the second from which on the home is looked at. A number alone is the second."""
+    """The program, if one is named, and the second from which on the home is looked at. A number alone is the second."""
     *program, start = words if words and common.number(words[-1]) is not None else [*words, str(START)]
     start = common.number(start, MOST_START)
     if start is None or len(program) > 1:
         given.error(f'START is no number from 0 to {MOST_START}' if start is None else f'{words[1]} is no number from 0 to {MOST_START}')
-    return common.found(program[0]) if program else common.program(), start
+    if not program:
+        common.must_play('hncp')
+    return common.found(program[0]) if program else None, start
 
 
 def main(words=None):

@@ -46,7 +46,7 @@ def main(words=None):
     ports, slack = captures.ports_of(given, words), common.number(words.slack, 10 ** 9)
     if slack is None:
         given.error(f'{words.slack} is no number of milliseconds')
-    common.program()
+    common.must_play('hncp')
     capture, faults = captures.Capture(words.capture, ports), []
     found = list(readable(capture, faults))
     if faults and not found:

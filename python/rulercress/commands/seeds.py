@@ -89,7 +89,7 @@ def first_line(lines, pattern, seed):
 def tell_lines(lines, pattern, seeds):
     """Writes the seeds with their first lines, and gives how many there are."""
     shown = 0
-    for seed, first in zip(seeds, common.in_order(lambda seed: first_line(lines, pattern, seed), seeds)):
+    for seed, first in zip(seeds, common.plays_in_order(lambda seed: first_line(lines, pattern, seed), seeds)):
         if first is not None:
             shown += 1
             print(f'seed {seed}: {first}', flush=True)
@@ -100,7 +100,7 @@ def tell_lines(lines, pattern, seeds):
 def tell_moments(lines, pattern, seeds, every):
     """Writes the seeds with their first moments, and gives how many there are."""
     found, (parted, moments) = [], with_reports(lines, every)
-    for seed, moment in zip(seeds, common.in_order(lambda seed: first_moment(parted, moments, pattern, seed), seeds)):
+    for seed, moment in zip(seeds, common.plays_in_order(lambda seed: first_moment(parted, moments, pattern, seed), seeds)):
         if moment is not None:
             found.append(moment)
             print(f'seed {seed}: {moment}', flush=True)

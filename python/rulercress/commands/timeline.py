@@ -187,7 +187,7 @@ def page(told, name):
 
 def told_of(texts, every=None):
     """What changed when in the play of a script of these lines, with reports at most once in `every` milliseconds."""
-    common.looker()    # said at once where it is not there, and not after a long play
+    common.must_play('hnlook')
     play = looks.Play(common.numbered(texts), every)
     if not play.looks:
         raise Problem('the script is refused before anything can be looked at')

@@ -1,4 +1,5 @@
 """The datagrams of a capture, as tshark reads it."""
+import bisect
 import functools
 import os
 import re
@@ -6,6 +7,7 @@ import shutil
 import subprocess
 
 from . import common, items
+from .. import library, players
 from .common import Problem
 
 PORT = 8231       # RFC 7788, section 3
@@ -86,14 +88,14 @@ MALFORMED = re.compile(r'malformed place=(\d+) why=(\d)$')
 
 def decode(payload):
     """The lines of `hncp decode` for these bytes."""
-    lines = common.decode(payload.hex())
+    lines = players.decode(payload).splitlines()
     if not lines or lines[0].split()[:1] not in (['tlvs'], ['malformed']):
         raise not_hncp(lines[:1])
     return lines
 
 
 def not_hncp(lines):
-    return Problem(f'{common.program()} decode writes "{"".join(lines)[:60]}"; it is no hncp')
+    return Problem(f'{common.player()} decode writes "{"".join(lines)[:60]}"; it is no hncp')
 
 
 @functools.lru_cache(maxsize=4096)
@@ -103,9 +105,12 @@ def decoded(payload):
 
 
 def decode_all(payloads):
-    """What `hncp decode` says of each: a table. Lists of TLVs one after another are one list, which a single call decodes; what is
-    no list has a call of its own, and as many of these run at once as there are processors."""
+    """What `hncp decode` says of each: a table. By the library each has a call of its own. By the program lists of TLVs one after
+    another are one list, which a single call decodes; what is no list has a call of its own, and as many of these run at once as
+    there are processors."""
     payloads = list(dict.fromkeys(payloads))
+    if library.found():
+        return {payload: Told(decode(payload)) for payload in payloads}
     alone = [payload for payload in payloads if items.list_fault(payload)]
     told = dict(zip(alone, map(Told, common.in_order(decode, alone))))
     batch, size = [], 0
@@ -127,15 +132,16 @@ def decode_batch(batch):
         told.append(ToldAmongOthers(size))
         size += len(payload)
         ends.append(size)
-    at = 0
+    at = end = 0
     for line in decode(b''.join(batch))[1:] if batch else []:
-        if not line.startswith(' '):
-            place = common.number(line.partition(' ')[0])
-            if place is None or place >= size:
+        if line[:1] != ' ':
+            place = line[:line.find(' ')]
+            if not place.isdigit() or int(place) >= size:
                 raise not_hncp([line])
-            while place >= ends[at]:
-                at += 1
-        told[at].read.append(line)
+            if int(place) >= end:
+                at = bisect.bisect_right(ends, int(place), at)
+                end, read = ends[at], told[at].read
+        read.append(line)
     return zip(batch, told)
 
 

@@ -1,4 +1,6 @@
-"""What the commands share: the programs, scripts and transcripts, and how a command ends.
+"""What the commands share: what plays, scripts and transcripts, and how a command ends.
+
+The library plays where it is found, and else the programs; both say the same.
 
 A command ends with status 0 when it is done, 1 when its input or the program is not as it has to be, 2 on bad arguments.
 """
@@ -9,7 +11,7 @@ import shutil
 import subprocess
 import sys
 
-from .. import programs
+from .. import library, programs
 from ..errors import Problem
 from ..shards import processors, shard
 
@@ -38,6 +40,8 @@ def end(main):
         status = 1
     except OSError as error:
         status = complain(f'{error.filename or "input"}: {error.strerror}')
+    except MemoryError as error:
+        status = complain(str(error) or 'out of memory')
     except KeyboardInterrupt:
         status = 130
     sys.exit(status)
@@ -72,6 +76,19 @@ def looker():
     return programs.path_of('hnlook')
 
 
+def player():
+    """The path of what plays: the library, or the program hncp."""
+    found = library.found()
+    return found.path if found else program()
+
+
+def must_play(*names):
+    """What these programs do can be done: by the library, or by the programs. It is said at once, and not after a long play."""
+    if not library.found():
+        for name in names:
+            programs.path_of(name)
+
+
 def ask(name, words, data):
     """What a program writes for these bytes, as lines, with its status. Other statuses than 0 and 2 are a problem."""
     done = subprocess.run(words, input=data, stdout=subprocess.PIPE, stderr=subprocess.PIPE)
@@ -85,9 +102,18 @@ def call(form, data):
     return ask('hncp', [program(), form], data)
 
 
+def told(name, words, texts):
+    """What hncp or hnlook with these words writes for a script of these lines, as lines."""
+    found, data = library.found(), joined(texts)
+    if not found:
+        return ask(name, [programs.path_of(name), *words], data)[0]
+    from .. import scripts      # it takes a while to load, and the programs play without it
+    return scripts.run(found, name, words, data)[0].splitlines()
+
+
 def look(words, texts):
     """What hnlook writes for a script of these lines, as lines."""
-    return ask('hnlook', [looker(), *words], joined(texts))[0]
+    return told('hnlook', words, texts)
 
 
 def decode(text):
@@ -133,7 +159,7 @@ def joined(texts):
 
 def play(texts):
     """The transcript of a script of these lines, as lines."""
-    return call('lab', joined(texts))[0]
+    return told('hncp', ['lab'], texts)
 
 
 def in_order(function, values):
@@ -152,6 +178,14 @@ def in_order(function, values):
         for each in waiting:
             each.cancel()
         pool.shutdown()
+
+
+def plays_in_order(function, values):
+    """As `in_order`, of a function that plays homes. Within one process of Python a call of the library would wait for others."""
+    if not library.found():
+        return in_order(function, values)
+    from ..campaigns import in_processes
+    return in_processes(function, values, processors())
 
 
 def part_of(values, part, given):

@@ -7,6 +7,7 @@ import re
 import struct
 
 from . import common
+from .. import players
 from .common import Problem
 
 # The causes W of `bad why=W`, and of `malformed place=P why=W` (docs/FORMATS.md, "The text of a datagram").
@@ -22,6 +23,7 @@ PREFIXED = (34, 35)
 
 class Item:
     """A line: its level, its place, type and length where it has them, its name, its words as a table, and the items below it."""
+    __slots__ = ('number', 'level', 'place', 'kind', 'length', 'name', 'words', 'below', 'is_padded')
 
     def __init__(self, number, level, place, kind, length, name, words):
         self.number, self.level = number, level
@@ -62,9 +64,9 @@ def tree(texts, kind=Item):
 
 def told_item(number, text, start):
     """The item of a line that `hncp decode` wrote of bytes from a place on; with less work than one of a line by hand."""
-    place, kind, length, name, *words = text.split()
-    fields = dict([word.split('=', 1) for word in words])
-    if len(fields) < len(words):
+    place, kind, length, name, *words = text.replace('=', ' ').split()
+    fields = dict(zip(words[::2], words[1::2]))
+    if len(words) != 2 * text.count('=') or len(words) > 2 * len(fields):
         raise ValueError
     return Item(number, level_of(text) if text[0] == ' ' else 0, int(place) - start, int(kind), int(length), name, fields)
 
@@ -125,7 +127,7 @@ def list_fault(octets):
 
 def first_fault(octets):
     """The place and the cause of what is no list of TLVs, as `hncp decode` tells them, or None."""
-    found = re.match(r'malformed place=(\d+) why=(\d)$', common.decode(octets.hex())[0])
+    found = re.match(r'malformed place=(\d+) why=(\d)\n', players.decode(octets))
     return found and (int(found.group(1)), int(found.group(2)))
 
 

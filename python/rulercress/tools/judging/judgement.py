@@ -48,10 +48,10 @@ class Judgement:
         """What `hncp decode` refuses of a datagram that is a list of TLVs, and where within it the fault is."""
         for top in found:
             node = top.words.get('node') if top.name == 'node-state' else None
-            for item in walk([top]):
+            for item in walk([top]) if top.below else (top,):
                 if item.name == 'bad':
                     self.take_bad(datagram, item, datagram.payload[item.place + HEAD:item.place + HEAD + item.length], node)
-                elif 'body' in item.words and item is top:
+                elif item is top and 'body' in item.words:
                     place, why = items.first_fault(bytes.fromhex(item.words['body']))
                     place += item.place + HEAD + items.FIXED[item.kind]
                     self.find('body', datagram, f'place={place} why={why} of the datagram: {items.MALFORMED[why]}', node=node)

@@ -25,11 +25,13 @@ def address_of(text):
         return None
 
 
+@functools.lru_cache(maxsize=4096)
 def is_link_local(text):
     address = address_of(text)
     return address is not None and address.version == 6 and address.is_link_local
 
 
+@functools.lru_cache(maxsize=4096)
 def is_multicast(text):
     address = address_of(text)
     return address is not None and address.is_multicast
@@ -155,7 +157,9 @@ class Senders:
         """What the items say. The answer is the sender."""
         source = self.of(datagram.link, datagram.source)
         self.take_endpoints(source, datagram, found)
-        sender = source.senders.setdefault(source.post, Sender(datagram.link, datagram.source, source.post))
+        sender = source.senders.get(source.post)
+        if sender is None:
+            sender = source.senders[source.post] = Sender(datagram.link, datagram.source, source.post)
         for item in found:
             if item.kind in DATA_KINDS:
                 text = f'a TLV of type {item.kind} at place {item.place} of the datagram, outside of node data'

@@ -32,6 +32,7 @@ def walk(found):
 
 class State:
     """A Node State as a datagram shows it."""
+    __slots__ = ('node', 'number', 'age', 'digest', 'frame', 'moment', 'source', 'item', 'octets', 'version', 'key')
 
     def __init__(self, datagram, item):
         self.node = item.words['node']
@@ -41,15 +42,8 @@ class State:
         self.item = item
         at = item.place + HEAD
         self.octets = datagram.payload[at + FIELDS:at + item.length]
-
-    @property
-    def version(self):
-        return self.node, self.number, self.digest
-
-    @property
-    def key(self):
-        """What names the data: a node may publish the same ones under a new number."""
-        return self.node, self.digest
+        self.version = self.node, self.number, self.digest
+        self.key = self.node, self.digest     # what names the data: a node may publish the same ones under a new number
 
     @property
     def part(self):

@@ -1,13 +1,15 @@
 """Makes the wheel of the package, as pip asks for it (PEP 517, PEP 660), with Python's standard library alone.
 
 So it is installed without a network into an environment that has nothing but pip, of each Python from 3.9 on. Twice from one
-tree the wheel is the same.
+tree the wheel is the same. Where the shared object of the laboratory was built in the clone, it goes into the wheel, which is
+then for this kind of machine alone.
 """
 import base64
 import hashlib
 import io
 import os
 import re
+import sysconfig
 import tarfile
 import zipfile
 from typing import Dict, Optional
@@ -18,6 +20,9 @@ SOURCES = ('pyproject.toml', 'README.md', 'wheels.py')
 KINDS = ('.py', '.typed', '.html', '.md')
 # The page that the command `explain` reads: it goes into the package, where the sources lie in a clone or an archive.
 PAGE, PAGE_IN_CLONE = f'{PACKAGE}/commands/FORMATS.md', '../docs/FORMATS.md'
+# The shared object, where `make -C include NAME=hn_lab_c` puts it, and where the package looks for it.
+LIBRARY = 'libhn_lab_c.so.1'
+LIBRARY_IN_CLONE, LIBRARY_IN_WHEEL = f'../include/out/{LIBRARY}', f'{PACKAGE}/{LIBRARY}'
 MOMENT = (1980, 1, 1, 0, 0, 0)      # the first that a zip file can tell
 
 
@@ -42,9 +47,16 @@ def files_of(folder: str) -> Dict[str, bytes]:
 def package() -> Dict[str, bytes]:
     """The files of the package."""
     files = files_of(PACKAGE)
-    if PAGE not in files and os.path.isfile(os.path.join(HERE, PAGE_IN_CLONE)):
-        files[PAGE] = read(PAGE_IN_CLONE)
+    for path, path_in_clone in ((PAGE, PAGE_IN_CLONE), (LIBRARY_IN_WHEEL, LIBRARY_IN_CLONE)):
+        if path not in files and os.path.isfile(os.path.join(HERE, path_in_clone)):
+            files[path] = read(path_in_clone)
     return files
+
+
+def tag_of(files: Dict[str, bytes]) -> str:
+    """For which Pythons and machines a wheel of these files is."""
+    platform = re.sub(r'[-.]', '_', sysconfig.get_platform()) if LIBRARY_IN_WHEEL in files else 'any'
+    return f'py3-none-{platform}'
 
 
 def metadata(project: Dict[str, str]) -> bytes:
@@ -62,16 +74,17 @@ def write_wheel(folder: str, files: Dict[str, bytes]) -> str:
     """Writes a wheel of these files to a folder, and gives its name."""
     project = told()
     stem = f'{project["name"]}-{project["version"]}'
-    about = f'{stem}.dist-info'
+    about, tag = f'{stem}.dist-info', tag_of(files)
+    is_pure = str(LIBRARY_IN_WHEEL not in files).lower()
     whole = {**files, f'{about}/METADATA': metadata(project),
              f'{about}/entry_points.txt': scripts().encode(),
-             f'{about}/WHEEL': b'Wheel-Version: 1.0\nGenerator: wheels.py\nRoot-Is-Purelib: true\nTag: py3-none-any\n'}
+             f'{about}/WHEEL': f'Wheel-Version: 1.0\nGenerator: wheels.py\nRoot-Is-Purelib: {is_pure}\nTag: {tag}\n'.encode()}
     record = ''
     for path, data in whole.items():
         digest = base64.urlsafe_b64encode(hashlib.sha256(data).digest()).rstrip(b'=').decode()
         record += f'{path},sha256={digest},{len(data)}\n'
     whole[f'{about}/RECORD'] = f'{record}{about}/RECORD,,\n'.encode()
-    name = f'{stem}-py3-none-any.whl'
+    name = f'{stem}-{tag}.whl'
     with zipfile.ZipFile(os.path.join(folder, name), 'w', zipfile.ZIP_DEFLATED) as wheel:
         for path, data in whole.items():
             entry = zipfile.ZipInfo(path, MOMENT)

@@ -11,6 +11,7 @@ from checks.helpers import Missing, lines_of, must, must_be, need_look
 
 TOP = os.path.dirname(common.HERE)
 FOLDER = os.path.join(TOP, 'python')
+PAGE = os.path.join('docs', 'FORMATS.md')
 EXAMPLE = os.path.join(TOP, 'examples', 'test_a_home.py')
 FOLDERS = ('python', 'examples', 'tools', 'checks')     # whose Python files the oldest Python reads
 OLDEST = (3, 9)
@@ -26,9 +27,9 @@ FOREIGN = ('PYTHONPATH', 'PYTHONHOME', 'PYTHONSTARTUP')  # what an environment o
 
 
 def started(words, folder=None, **more):
-    """A command that has ended: its status, and what it wrote, messages too."""
-    environment = {name: value for name, value in os.environ.items() if name not in FOREIGN}
-    environment.update(HNCP=common.program(), HNLOOK=common.looker(), PYTHONDONTWRITEBYTECODE='1', **more)
+    """A command that has ended: its status, and what it wrote, messages too. A variable whose value is None is not set for it."""
+    environment = {**os.environ, **dict.fromkeys(FOREIGN), 'HNCP': common.program(), 'HNLOOK': common.looker(), 'PYTHONDONTWRITEBYTECODE': '1', **more}
+    environment = {name: value for name, value in environment.items() if value is not None}
     done = subprocess.run(words, cwd=folder, stdin=subprocess.DEVNULL, stdout=subprocess.PIPE, stderr=subprocess.STDOUT, env=environment)
     return done.returncode, done.stdout.decode('utf-8', 'replace').strip()
 
@@ -67,7 +68,7 @@ def check_tables():
         from rulercress.errors import MEANINGS
     finally:
         sys.path.remove(FOLDER)
-    page = '\n'.join(common.read(os.path.join(TOP, 'docs', 'FORMATS.md'))).split('\n### Codes\n', 1)[1].split('\n#', 1)[0]
+    page = '\n'.join(common.read(os.path.join(TOP, PAGE))).split('\n### Codes\n', 1)[1].split('\n#', 1)[0]
     known = re.findall(r'(?m)^\| (\d+) \| (.*) \|$', page.replace('`', ''))
     must_be([(str(code), meaning) for code, meaning in MEANINGS.items()], known, 'codes of docs/FORMATS.md')
     must_be(lines_of('explain', '5', '8')[:1], [f'refused 5 8: {MEANINGS[8]}'], 'code 8')
@@ -114,15 +115,16 @@ def check_commands(rulercress, folder):
         must(status in (0, FOUND) and text.startswith(f'capture datagrams={frames} '), f'rulercress judge: status {status}: {text[:120]}')
 
 
-def check_installed(python, folder):
-    """pip installs the package from its folder alone into an environment that has nothing but pip. There each test of the
-    example passes; and by pytest, which takes the package from that environment, where this Python has one."""
+def installed(python, folder, beside):
+    """pip installs the package from its folder alone, with these files of the clone beside it, into an environment that has
+    nothing but pip. The environment, and where the package is."""
     place, clone = os.path.join(folder, 'environment'), os.path.join(folder, 'clone')
     for old in (place, clone):
         shutil.rmtree(old, ignore_errors=True)
     source = shutil.copytree(FOLDER, os.path.join(clone, 'python'), ignore=shutil.ignore_patterns('__pycache__'))
-    os.mkdir(os.path.join(clone, 'docs'))
-    shutil.copy(os.path.join(TOP, 'docs', 'FORMATS.md'), os.path.join(clone, 'docs'))
+    for path, origin in beside.items():
+        os.makedirs(os.path.dirname(os.path.join(clone, path)), exist_ok=True)
+        shutil.copy(origin, os.path.join(clone, path))
     shutil.copy(EXAMPLE, folder)
     output([python, '-m', 'venv', place], folder)
     inside = os.path.join(place, 'bin', 'python')
@@ -131,7 +133,14 @@ def check_installed(python, folder):
     shutil.rmtree(clone)
     at = output([inside, '-c', 'import rulercress; print(rulercress.__file__)'], folder)
     must(at.startswith(place + os.sep), f'{python}: what is imported is {at}')
-    output([inside, '-c', CALLS], folder)
+    return place, at
+
+
+def check_installed(python, folder):
+    """Where pip installed the package each test of the example passes; and by pytest, which takes the package from that
+    environment, where this Python has one."""
+    place, at = installed(python, folder, {PAGE: os.path.join(TOP, PAGE)})
+    output([os.path.join(place, 'bin', 'python'), '-c', CALLS], folder)
     check_commands(os.path.join(place, 'bin', 'rulercress'), folder)
     if has(python, 'pytest'):
         output([python, *PYTEST, os.path.join(folder, 'test_a_home.py')], folder, PYTHONPATH=os.path.dirname(os.path.dirname(at)))

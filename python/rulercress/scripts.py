@@ -83,7 +83,8 @@ class Script:
             return self.ended('')
         text = self.lab.look(form, *names)
         if text is None:
-            return f'refused 0 {UNKNOWN if self.lab.runs(names[0]) is None else STOPPED}\n', REFUSED
+            code = UNKNOWN if self.lab.runs(names[0]) is None else STOPPED
+            return self.ended(f'refused 0 {code}\n')[0], REFUSED
         return self.ended(text)
 
 

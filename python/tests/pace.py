@@ -3,11 +3,12 @@
     cd python && python3 -m tests.pace --processors 1 4
 
 The library is that of HN_LAB, or what is found without it. On so many processors so many processes play, and no more processors
-are used. Each cell is the most of some rounds: on a busy machine all of them are too small. Both ways come to the same
-transcripts, which is looked at first.
+are used. Each rate is the most of some rounds: on a busy machine all of them are too small. The processor time of a home, that
+of its program too, says more there. Both ways come to the same transcripts, which is looked at first.
 """
 import argparse
 import os
+import resource
 import sys
 import time
 from typing import Callable, Dict, List, Sequence
@@ -17,6 +18,7 @@ from rulercress.programs import run
 from rulercress.shards import processors
 
 SECONDS, ROUNDS = 2.0, 3
+SOME = 10                # homes of which the processor time is taken
 DRIVEN = 'three routers, 30 s, each copy asked of'
 
 
@@ -92,12 +94,28 @@ def best_rate(function: Callable[[int], str], seconds: float, rounds: int, proce
     return max(rate(function, count, processes) for _ in range(rounds))
 
 
+def processor_time() -> float:
+    """The seconds of processor time of this process and of those that it began."""
+    used = [resource.getrusage(who) for who in (resource.RUSAGE_SELF, resource.RUSAGE_CHILDREN)]
+    return sum(each.ru_utime + each.ru_stime for each in used)
+
+
+def least_time(function: Callable[[int], str], rounds: int) -> float:
+    """The processor time of a home, in milliseconds: the least of some rounds."""
+    found = []
+    for _ in range(rounds):
+        begun = processor_time()
+        many(function, range(SOME), 1)
+        found.append((processor_time() - begun) / SOME * 1000)
+    return min(found)
+
+
 def rates(path: str, numbers: Sequence[int], seconds: float, rounds: int) -> Dict[str, List[float]]:
-    """Of each home the rates on so many processors."""
+    """Of each home its processor time, and the rates on so many processors."""
     os.environ[library.VARIABLE] = path
     whole, found = sorted(os.sched_getaffinity(0)), {}
     for name, function in HOMES.items():
-        found[name] = []
+        found[name] = [least_time(function, rounds)]
         for number in numbers:
             os.sched_setaffinity(0, whole[:number])
             found[name].append(best_rate(function, seconds, rounds, number))
@@ -119,10 +137,12 @@ def must_agree(path: str) -> None:
 
 
 def table(numbers: Sequence[int], ours: Dict[str, List[float]], theirs: Dict[str, List[float]]) -> List[str]:
-    heads = ['Homes a second', *(f'{way}, {number} processor{"s" if number > 1 else ""}' for number in numbers for way in ('one process each' if number > 1 else 'in one process', 'a program each', 'ratio'))]
+    ways = [f'a second on {number} processor{"s" if number > 1 else ""}' for number in numbers]
+    heads = ['Homes: by the library, by a program each, and the ratio', 'processor time, in ms', *ways]
     lines = [f'| {" | ".join(heads)} |', '|' + '---|' * len(heads)]
     for name in HOMES:
-        cells = [text for one, other in zip(ours[name], theirs[name]) for text in (f'{one:,.0f}', f'{other:,.0f}', f'{one / other:.1f}')]
+        (mine, *rates), (other, *others) = ours[name], theirs[name]
+        cells = [f'{mine:.2f}, {other:.2f}, {other / mine:.1f}', *(f'{one:,.0f}, {two:,.0f}, {one / two:.1f}' for one, two in zip(rates, others))]
         lines.append(f'| {name} | {" | ".join(cells)} |')
     return lines
 

@@ -260,6 +260,14 @@ class OfTouches(OnSmall):
         status, _ = self.output(print_touched, 'lantern zebra', '--count')
         self.assertEqual((status, self.errors), (1, 'no file names zebra\n'))
 
+    def test_files_with_each_word(self) -> None:
+        """Those that name each of the words, one here; a file that has the words apart is not enough."""
+        status, text = self.output(print_touched, 'lantern IsClaimed', '--each')
+        self.assertEqual(status, 0)
+        self.assertEqual(re.findall(r'(?m)^\w+ +\d+  (\S+)$', text), ['crates/one/specs/Facts.antt', 'docs/LANTERN.md'])
+        status, _ = self.output(print_touched, 'lantern IsClaimed zebra', '--each')
+        self.assertEqual((status, self.errors), (1, 'no file names zebra\n'))
+
     def test_kinds(self) -> None:
         """Of files of crates and of others."""
         kinds = {'crates/a/stdin': 'data', 'crates/a/specs/b/C.antt': 'specs', 'crates.txt': 'others',

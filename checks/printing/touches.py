@@ -128,16 +128,19 @@ def print_touched(root: str, texts: List[str], options: Set[str]) -> int:
     if not texts or not all(NAME.fullmatch(text) and Word(text).parts for text in texts):
         raise BadWords
     found = list(touched(root, [Word(text, '--begins' in options) for text in texts]))
-    lines = [] if '--count' in options else printed(found)
-    print('\n'.join(lines + sums(found)))
     named = {text for file in found for text in file.words}
+    shown = [file for file in found if file.words >= set(texts)] if '--each' in options else found
+    lines = [] if '--count' in options else printed(shown)
+    print('\n'.join(lines + sums(shown)))
     for text in texts:
         if text not in named:
             print('no file names %s' % text, file=sys.stderr)
-    return DONE if named >= set(texts) else NOT_THERE
+    if named >= set(texts) and not shown:
+        print('no file names each of %s' % ' '.join(texts), file=sys.stderr)
+    return DONE if shown and named >= set(texts) else NOT_THERE
 
 
 def main(usage: str, words: List[str], root: str = ROOT) -> int:
     """Does what the words of the command line say."""
-    return run(usage, words, ('--count', '--begins'), 'Touches',
+    return run(usage, words, ('--count', '--begins', '--each'), 'Touches',
                lambda others, options: print_touched(root, others, options))

@@ -10,8 +10,8 @@ use hn_world::World;
 
 /// The name of a router, stopped or not, from its text. Never allocates.
 pub(crate) fn named(world: &World, text: &[u8]) -> Option<Name>
-    ensures some { IfSome result (λ name. (name_text name ≡ text.now) × IsSome (member_named text.now world.now)) }
-    ensures none { (result ≡ None) ↔ (member_named text.now world.now ≡ None) }
+    ensures some { IfSome result (λ name. (name_text name ≡ text.now) × IsSome (member_named text.now world.now.parts)) }
+    ensures none { (result ≡ None) ↔ (member_named text.now world.now.parts ≡ None) }
 {
     let Some(name) = Name::new(text) else {
         return None;
@@ -24,8 +24,8 @@ pub(crate) fn named(world: &World, text: &[u8]) -> Option<Name>
 
 /// The name of a router that runs, from its text. Never allocates.
 pub(crate) fn running(world: &World, text: &[u8]) -> Option<Name>
-    ensures some { IfSome result (λ name. (name_text name ≡ text.now) × IsTrue (runs text.now world.now)) }
-    ensures none { (result ≡ None) ↔ (runs text.now world.now ≡ false) }
+    ensures some { IfSome result (λ name. (name_text name ≡ text.now) × IsTrue (runs text.now world.now.parts)) }
+    ensures none { (result ≡ None) ↔ (runs text.now world.now.parts ≡ false) }
 {
     let Some(name) = Name::new(text) else {
         return None;

@@ -17,7 +17,7 @@ use std::alloc::Global;
 
 /// The name of the router that sends from an address, with zeros after it; only zeros where there is none.
 fn sender_name(world: &World, from: Addr) -> [u8; 16]
-    ensures { result ≡ sender_name world.now from }
+    ensures { result ≡ sender_name world.now.parts from }
 {
     match world.router_at(sender_place(from)) {
         Some(name) => name.bytes,
@@ -27,7 +27,7 @@ fn sender_name(world: &World, from: Addr) -> [u8; 16]
 
 /// A copy as C sees it.
 fn copy_out(world: &World, info: &CopyInfo) -> MailCopy
-    ensures { result ≡ copy_out world.now info.now }
+    ensures { result ≡ copy_out world.now.parts info.now }
 {
     MailCopy {
         sender: sender_name(world, info.from),
@@ -41,10 +41,10 @@ fn copy_out(world: &World, info: &CopyInfo) -> MailCopy
 
 /// The copy of a number, and its bytes, where there is room.
 fn tell(world: &World, number: u64, out: &mut MailCopy, count: &mut usize, room: &mut [u8]) -> u8
-    ensures copy { result ≡ 0 → IsCopyOut world.now number (λ bytes. FillsRoom bytes count.new room.old room.new) out.new }
-    ensures no_room { result ≡ 2 → copy_at world.now number ≢ None
-        → IsCopyOut world.now number (λ bytes. OverflowsRoom bytes count.new room.old) out.new }
-    ensures absent { copy_at world.now number ≡ None → (result ≡ 2) × (out.new ≡ out.old) × (count.new ≡ 0) }
+    ensures copy { result ≡ 0 → IsCopyOut world.now.parts number (λ bytes. FillsRoom bytes count.new room.old room.new) out.new }
+    ensures no_room { result ≡ 2 → copy_at world.now.parts number ≢ None
+        → IsCopyOut world.now.parts number (λ bytes. OverflowsRoom bytes count.new room.old) out.new }
+    ensures absent { copy_at world.now.parts number ≡ None → (result ≡ 2) × (out.new ≡ out.old) × (count.new ≡ 0) }
     ensures as_before { result ≢ 0 → room.new ≡ room.old }
     ensures status { (result ≡ 0) ⊎ (result ≡ 2) }
 {

@@ -32,7 +32,7 @@ pub extern "C" fn hn_lab_new(alloc: Global, lab: &mut Handle, version: u8) -> u8
     let Some(version) = version_numbered(version) else {
         return REFUSED;
     };
-    let Ok(play) = OpenPlay::new(alloc, version) else {
+    let Ok(play) = OpenPlay::new(alloc, version, true) else {
         return NO_MEMORY;
     };
     let Ok(play) = Box::new(alloc, play) else {

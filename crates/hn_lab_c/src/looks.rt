@@ -22,9 +22,9 @@ use std::alloc::Global;
 
 /// Whether the router of a name is settled and quiet, and if not, why.
 fn why(alloc: Global, world: &World, name: &[u8], count: &mut usize, room: &mut [u8]) -> u8
-    ensures why { result ≡ 0 → WritesText (IsWhy name.now world.now) count.new room.old room.new }
-    ensures refused { result ≡ 2 → TellsNothing (runs name.now world.now) (IsWhy name.now world.now) count.new room.old }
-    ensures stopped { runs name.now world.now ≡ false → (result ≡ 2) × (count.new ≡ 0) }
+    ensures why { result ≡ 0 → WritesText (IsWhy name.now world.now.parts) count.new room.old room.new }
+    ensures refused { result ≡ 2 → TellsNothing (runs name.now world.now.parts) (IsWhy name.now world.now.parts) count.new room.old }
+    ensures stopped { runs name.now world.now.parts ≡ false → (result ≡ 2) × (count.new ≡ 0) }
     ensures as_before { result ≢ 0 → room.new ≡ room.old }
     ensures status { result ≤ 2 }
 {
@@ -40,9 +40,9 @@ fn why(alloc: Global, world: &World, name: &[u8], count: &mut usize, room: &mut 
 
 /// Whether the home of the router of a name is calm, and until when it lasts; and if not, what is missing.
 fn calm(alloc: Global, world: &World, name: &[u8], count: &mut usize, room: &mut [u8]) -> u8
-    ensures calm { result ≡ 0 → WritesText (IsCalmText name.now world.now) count.new room.old room.new }
-    ensures refused { result ≡ 2 → TellsNothing (runs name.now world.now) (IsCalmText name.now world.now) count.new room.old }
-    ensures stopped { runs name.now world.now ≡ false → (result ≡ 2) × (count.new ≡ 0) }
+    ensures calm { result ≡ 0 → WritesText (IsCalmText name.now world.now.parts) count.new room.old room.new }
+    ensures refused { result ≡ 2 → TellsNothing (runs name.now world.now.parts) (IsCalmText name.now world.now.parts) count.new room.old }
+    ensures stopped { runs name.now world.now.parts ≡ false → (result ≡ 2) × (count.new ≡ 0) }
     ensures as_before { result ≢ 0 → room.new ≡ room.old }
     ensures status { result ≤ 2 }
 {
@@ -58,10 +58,10 @@ fn calm(alloc: Global, world: &World, name: &[u8], count: &mut usize, room: &mut
 
 /// What the router of a name holds.
 fn table(alloc: Global, world: &World, name: &[u8], count: &mut usize, room: &mut [u8]) -> u8
-    ensures table { result ≡ 0 → WritesText (IsTableOf name.now world.now) count.new room.old room.new }
+    ensures table { result ≡ 0 → WritesText (IsTableOf name.now world.now.parts) count.new room.old room.new }
     ensures refused { result ≡ 2
-        → TellsNothing (is_some (member_named name.now world.now)) (IsTableOf name.now world.now) count.new room.old }
-    ensures unknown { member_named name.now world.now ≡ None → (result ≡ 2) × (count.new ≡ 0) }
+        → TellsNothing (is_some (member_named name.now world.now.parts)) (IsTableOf name.now world.now.parts) count.new room.old }
+    ensures unknown { member_named name.now world.now.parts ≡ None → (result ≡ 2) × (count.new ≡ 0) }
     ensures as_before { result ≢ 0 → room.new ≡ room.old }
     ensures status { result ≤ 2 }
 {
@@ -80,8 +80,8 @@ fn table(alloc: Global, world: &World, name: &[u8], count: &mut usize, room: &mu
 
 /// What happened in a home, event by event.
 fn log(alloc: Global, world: &World, count: &mut usize, room: &mut [u8]) -> u8
-    ensures log { result ≡ 0 → WritesText (IsLog world.now) count.new room.old room.new }
-    ensures no_room { result ≡ 2 → HasNoRoomForText (IsLog world.now) count.new room.old }
+    ensures log { result ≡ 0 → WritesText (IsLog world.now.parts) count.new room.old room.new }
+    ensures no_room { result ≡ 2 → HasNoRoomForText (IsLog world.now.parts) count.new room.old }
     ensures as_before { result ≢ 0 → room.new ≡ room.old }
     ensures status { result ≤ 2 }
 {

@@ -17,8 +17,8 @@ use std::alloc::Global;
 
 /// Whether a router is settled, and quiet; neither where it is stopped.
 fn audited(alloc: Global, world: &World, name: &Name) -> Result<(bool, bool), NoMemory>
-    ensures { IfOk result (λ found. (r : AMember) → member_named (name_text name.now) world.now ≡ Some r
-        → AreAuditedOf r.running world.now r found.0 found.1) }
+    ensures { IfOk result (λ found. (r : AMember) → member_named (name_text name.now) world.now.parts ≡ Some r
+        → AreAuditedOf r.running world.now.parts r found.0 found.1) }
 {
     if !world.running(name) {
         return Ok((false, false));
@@ -28,8 +28,8 @@ fn audited(alloc: Global, world: &World, name: &Name) -> Result<(bool, bool), No
 
 /// The router of a name.
 fn tell(alloc: Global, world: &World, name: &[u8], out: &mut State) -> u8
-    ensures state { result ≡ 0 → IsStateOut name.now world.now out.new }
-    ensures unknown { result ≡ 2 ↔ (member_named name.now world.now ≡ None) }
+    ensures state { result ≡ 0 → IsStateOut name.now world.now.parts out.new }
+    ensures unknown { result ≡ 2 ↔ (member_named name.now world.now.parts ≡ None) }
     ensures as_before { result ≢ 0 → out.new ≡ out.old }
     ensures status { result ≤ 2 }
 {

@@ -6,5 +6,5 @@ use Rattle.hn_lab_c.proofs.asked.running.Goals as goal
 
 pub returns-in_default-clause-none : goal.returns-in_default-clause-none
 returns-in_default-clause-none c =
-    let nobody = no_name c.args.text.now c.args.world.now (λ is. absurd (false≢true (c.in_default.ensures.found.1 is))) in
+    let nobody = no_name c.args.text.now c.args.world.now.parts (λ is. absurd (false≢true (c.in_default.ensures.found.1 is))) in
     (λ _. ap (λ (there : Option Member). option_map_or (λ m. m.running) there false) nobody, λ _. refl)

@@ -11,10 +11,10 @@ pub returns-clause-copy : goal.returns-clause-copy
 returns-clause-copy c =
     let status = c.tell-status in
     let Told : Parts → Type 0 = λ w. IsCopyOut w c.args.number (λ bytes. FillsRoom bytes status.new.count c.args.room.now status.new.room) status.new.out in
-    λ done. of_world c.in-Some.play.value c.deref.result.now c.world.result.now c.in-Some.ensures.taken c.deref.ensures c.world.ensures Told (status.ensures.copy done)
+    λ done. of_world c.in-Some.play.value c.deref.result.now c.world.result.now.parts c.in-Some.ensures.taken c.deref.ensures c.world.ensures Told (status.ensures.copy done)
 
 pub returns-clause-no_room : goal.returns-clause-no_room
 returns-clause-no_room c =
     let status = c.tell-status in
     let Told : Parts → Type 0 = λ w. copy_at w c.args.number ≢ None → IsCopyOut w c.args.number (λ bytes. OverflowsRoom bytes status.new.count c.args.room.now) status.new.out in
-    λ two. of_world c.in-Some.play.value c.deref.result.now c.world.result.now c.in-Some.ensures.taken c.deref.ensures c.world.ensures Told (status.ensures.no_room two)
+    λ two. of_world c.in-Some.play.value c.deref.result.now c.world.result.now.parts c.in-Some.ensures.taken c.deref.ensures c.world.ensures Told (status.ensures.no_room two)

@@ -14,7 +14,7 @@ table_of name of text w m same there is = subst (λ (n : List ℕ). IsTableOf n 
 
 pub returns-clause-table : goal.returns-clause-table
 returns-clause-table c =
-    let w = c.args.world.now in
+    let w = c.args.world.now.parts in
     let text = string_bytes c.in-Ok.text in
     let there = sym (rw c.in-Some-member.is at c.member.ensures) in
     let is = table_of c.args.name.now (name_text c.in-Some.name) text w c.in-Some-member.member.now c.in-Some.ensures.some.0 there c.in-Ok.ensures in
@@ -22,7 +22,7 @@ returns-clause-table c =
 
 pub returns-clause-refused : goal.returns-clause-refused
 returns-clause-refused c =
-    let w = c.args.world.now in
+    let w = c.args.world.now.parts in
     let text = string_bytes c.in-Ok.text in
     let there = sym (rw c.in-Some-member.is at c.member.ensures) in
     let is = table_of c.args.name.now (name_text c.in-Some.name) text w c.in-Some-member.member.now c.in-Some.ensures.some.0 there c.in-Ok.ensures in

@@ -6,5 +6,5 @@ pub returns-clause-state : goal.returns-clause-state
 returns-clause-state c =
     let r = c.in-Some-member.member.now in
     let there = sym (rw c.in-Some-member.is at c.member.ensures) in
-    λ _. state_so c.args.world.now c.args.name.now (name_text c.in-Some.name) r c.in-Ok.settled c.in-Ok.quiet c.state_out.result c.in-Some.ensures.some.0 there
+    λ _. state_so c.args.world.now.parts c.args.name.now (name_text c.in-Some.name) r c.in-Ok.settled c.in-Ok.quiet c.state_out.result c.in-Some.ensures.some.0 there
     (c.in-Ok.ensures r there) c.state_out.ensures

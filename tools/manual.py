@@ -15,8 +15,17 @@ FORMATS = os.path.join('docs', 'FORMATS.md')
 TOOLS = os.path.join('tools', 'README.md')
 COMMANDS = 'The command line'                    # the section whose tables are the forms and the statuses
 LOOK = 'hnlook'                                  # the section of the second program
-INLINE = re.compile(r'`([^`]+)`|\*\*([^*]+)\*\*|!?\[([^\]]*)\]\([^)]*\)')
+INLINE = re.compile(r'`([^`]+)`|\*\*([^*]+)\*\*|!?\[([^\]]*)\]\(([^)#]*)[^)]*\)')
 CELL = re.compile(r'(?<!\\)\|')
+ELSEWHERE = re.compile(r'"(Reports|The text of a datagram)"(, above)?')      # sections of the page of hncp, named in that of hnlook
+DATA = '/usr/share/rulercress/crates/transcripts/data'
+EXAMPLES = {
+    'hncp': [('A stored home, with what its routers came to:', f'hncp lab < {DATA}/an_audited_home.script'),
+             ('What the nodes of a captured link claimed:',
+              "tshark -r home.pcap -Y 'udp.port == 8231' -T fields -e udp.payload | sed 's/^$/-/' | hncp watch")],
+    'hnlook': [('Why a home is not settled:', f'hnlook why A < {DATA}/no_keep_alives_promised.home'),
+               ('Which copies were lost:', f'hnlook log < {DATA}/a_lossy_home.script | grep " drop "')],
+}
 
 
 def section_marks(text):
@@ -37,12 +46,18 @@ def escaped(text):
     return text.replace('\\', '\\e').replace('-', '\\-').replace('\u2019', "'")
 
 
+def linked(text, page):
+    """The text of a link. The name of a page alone becomes its place in the tree."""
+    is_name = page.endswith('.md') and re.fullmatch('[A-Z-]+|python|tools', text)
+    return escaped(os.path.normpath(os.path.join('docs', page))) if is_name else inline(text)
+
+
 def inline(text):
     """A text with its words in bold."""
     made, at = [], 0
     for found in INLINE.finditer(text):
-        code, bold, link = found.groups()
-        inner = escaped(code) if code is not None else inline(bold) if bold is not None else inline(link)
+        code, bold, link, page = found.groups()
+        inner = escaped(code) if code is not None else inline(bold) if bold is not None else linked(link, page)
         made += [escaped(text[at:found.start()]), inner if link is not None else f'\\fB{inner}\\fR']
         at = found.end()
     return ''.join(made) + escaped(text[at:])
@@ -145,8 +160,9 @@ def synopsis(rows):
         yield from (['.br'] if place else []) + [f'.B {escaped(program)} {escaped(rest)}']
 
 
-def closing(others):
-    return ['.SH SEE ALSO', ', '.join(f'\\fB{escaped(name)}\\fR({part})' for name, part in others) + '.',
+def closing(others, examples=()):
+    shown = [line for about, call in examples for line in ('.PP', escaped(about), '.PP', '.in +4n', '.nf', guarded(escaped(call)), '.fi', '.in')]
+    return [*(['.SH EXAMPLES', *shown] if shown else []), '.SH SEE ALSO', ', '.join(f'\\fB{escaped(name)}\\fR({part})' for name, part in others) + '.',
             '.PP', 'RFC 7787, RFC 7788, RFC 7695, RFC 6206.']
 
 
@@ -157,24 +173,30 @@ def hncp_page(parts, version, moment):
     end = next(place for place, part in enumerate(parts) if part[1] == LOOK)
     return [*begun('hncp', 'play homes of HNCP routers, and decode HNCP datagrams', version, moment), *synopsis(forms),
             '.SH DESCRIPTION', *roff(forms), *roff(prose), '.SH EXIT STATUS', *roff(statuses),
-            *headed(parts[begin + 1:end], 2), *closing([('hnlook', 1), ('hncp-tools', 1)])]
+            *headed(parts[begin + 1:end], 2), *closing([('hnlook', 1), ('hncp-tools', 1), ('hnd', 8)], EXAMPLES['hncp'])]
+
+
+def of_look(lines):
+    """Lines of FORMATS as the page of hnlook has them: what stands on that of hncp is named so."""
+    return [ELSEWHERE.sub(r'\1 of hncp(1)', line) for line in lines]
 
 
 def hnlook_page(parts, version, moment):
-    section = below(parts, LOOK)
+    section = [(depth, name, of_look(lines)) for depth, name, lines in below(parts, LOOK)]
     (forms,), lines = tables_of(section, LOOK)
-    statuses = [row for row in tables_of(parts, COMMANDS)[0][1] if cells(row)[0] != '5']     # those of hncp, but for 5
+    of_hncp = tables_of(parts, COMMANDS)[0][1]
+    statuses = [row.replace('; never with `soak`', '') for row in of_hncp if cells(row)[0] != '5']     # those of hncp, but for 5
     return [*begun('hnlook', 'look at what happened in a home of HNCP routers, and why', version, moment), *synopsis(forms),
             '.SH DESCRIPTION', *roff(lines), '.SH EXIT STATUS', *roff(statuses),
-            *headed(section[1:], 3), *closing([('hncp', 1), ('hncp-tools', 1)])]
+            *headed(section[1:], 3), *closing([('hncp', 1), ('hncp-tools', 1)], EXAMPLES['hnlook'])]
 
 
 def tools_page(parts, version, moment):
     """Of each tool. In the package a tool NAME is the command hncp-NAME."""
     first = parts[1]
     return [*begun('hncp-tools', 'tools for those who test HNCP gateways', version, moment),
-            '.SH DESCRIPTION', 'In the package a tool NAME is the command \\fBhncp\\-\\fINAME\\fR, and the files that the examples name lie below '
-            '\\fI/usr/share/rulercress\\fR.', *roff(first[2]), *headed(parts[2:], 2), *closing([('hncp', 1), ('hnlook', 1)])]
+            '.SH DESCRIPTION', 'In the package a tool NAME is the command \\fBhncp\\-\\fINAME\\fR, and most are \\fBrulercress\\fR \\fINAME\\fR too. '
+            'The files that the examples name lie below \\fI/usr/share/rulercress\\fR, and so do the pages.', *roff(first[2]), *headed(parts[2:], 2), *closing([('hncp', 1), ('hnlook', 1)])]
 
 
 def joined(lines):

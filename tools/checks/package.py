@@ -10,12 +10,15 @@ from checks.helpers import must, must_be, need
 from checks.release import CALLS, DATA, LIBRARY, Home, made_twice, run_in
 
 SHARE = 'usr/share/rulercress'
+PYTHON = 'usr/lib/python3/dist-packages'
+LIBRARIES = 'usr/lib/x86_64-linux-gnu'
+UNIT = 'usr/lib/systemd/system/hnd.service'
 COMMANDS = ['annotate', 'capture', 'decode-capture', 'explain', 'forge', 'judge', 'picture', 'relay', 'seeds', 'timeline']
 ADMIN = 'var/lib/dpkg'
 
 
 def check_told(path):
-    """What the package says of itself, and what is in it: files of root below usr, with right modes."""
+    """What the package says of itself, and what is in it: files of root below usr, and one below etc, with right modes."""
     fields = dict(line.split(': ', 1) for line in output(['dpkg-deb', '--field', path]).splitlines() if re.match(r'[A-Z][\w-]*: ', line))
     version = re.search(r'_([^_]+)_amd64\.deb$', path)[1]
     must_be([fields['Package'], fields['Version'], fields['Architecture']], ['rulercress', version, 'amd64'], 'fields of the package')
@@ -23,7 +26,7 @@ def check_told(path):
     lines = [line.split(None, 5) for line in output(['dpkg-deb', '--contents', path]).splitlines()]
     for mode, owner, _, _, _, name in lines:
         right = {'d': ['drwxr-xr-x'], 'l': ['lrwxrwxrwx'], '-': ['-rw-r--r--', '-rwxr-xr-x']}[mode[0]]
-        must(owner == 'root/root' and mode in right and re.match(r'\./(usr/|$)', name), f'{mode} {owner} {name}')
+        must(owner == 'root/root' and mode in right and re.match(r'\./(usr/|etc/(default/(hnd)?)?$|$)', name), f'{mode} {owner} {name}')
     return len(lines)
 
 
@@ -34,8 +37,8 @@ def output(words):
 
 
 def dpkg(root, *words):
-    """Runs dpkg on a folder that stands for the root of a system with nothing installed."""
-    output(['dpkg', f'--root={root}', f'--log={os.devnull}', '--force-depends', *words])
+    """Runs dpkg on a folder that stands for the root of a system with nothing installed, so that this one's shell runs scripts."""
+    output(['dpkg', f'--root={root}', f'--log={os.devnull}', '--force-depends', '--force-script-chrootless', *words])
 
 
 def empty_root(root):
@@ -92,14 +95,50 @@ def check_used(home, root):
         status, text, messages = run_in(root, [os.path.join(root, 'usr/bin/hncp-seeds'), '-n', '2', os.path.join(top, DATA, 'a_lossy_home.script'), 'ids=same'])
         must(status == 0 and text.endswith('2 of 2 seeds\n'), f'hncp-seeds: status {status}, {text[-100:]}{messages[-100:]}')
         used.append('hncp-seeds')
-    library = os.path.join(root, 'usr/lib/x86_64-linux-gnu', os.path.basename(LIBRARY))
-    words = ['gcc', '-std=c11', '-O1', '-I', os.path.join(root, 'usr/include'), '-o', os.path.join(home.to, 'events'),
-             os.path.join(top, 'checks/c/events.c'), os.path.join(top, 'include/hn_heap.c'), library]
-    if 'library' in home.real:
-        output(words)
-        output([os.path.join(home.to, 'events')])
-        used.append('the library')
-    return used
+    return used + check_python(home, root) + check_unit(root) + check_libraries(home, root)
+
+
+def check_python(home, root):
+    """Python finds the package, and keeps what it compiles beside the modules; its command is there."""
+    python = ['env', '-u', 'PYTHONDONTWRITEBYTECODE', f'PYTHONPATH={os.path.join(root, PYTHON)}', 'python3']
+    found = output([*python, '-c', 'import rulercress.commands, sys; sys.stdout.write(rulercress.commands.__file__)'])
+    kept = os.path.join(root, SHARE, 'python/rulercress/commands/__pycache__')
+    must(os.path.realpath(found) == os.path.realpath(os.path.join(kept, '../__init__.py')), f'Python found {found}')
+    must(os.path.isdir(kept), f'Python left no {kept}')
+    told = output([*python, os.path.join(root, 'usr/bin/rulercress'), '--help'])
+    must('\n  judge ' in told, f'rulercress --help: {told[:60]}')
+    if 'hncp' in home.real:
+        asked = "from rulercress import Home; home = Home(); home.router('a'); home.run(1); print(home.script.splitlines()[0])"
+        told = output([*python, '-c', asked])
+        must(told == 'hncp 2\n', f'a home in Python: {told}')
+    return ['the Python package']
+
+
+def check_unit(root):
+    """The unit of the daemon names files of the package; where there is no daemon there is no unit."""
+    is_there = os.path.exists(os.path.join(root, UNIT))
+    must(is_there == os.path.exists(os.path.join(root, 'usr/sbin/hnd')), 'a daemon without its unit, or a unit without the daemon')
+    if not is_there:
+        return []
+    told = '\n'.join(common.read(os.path.join(root, UNIT)))
+    named = [re.search(rf'^{key}=/(\S+)', told, re.MULTILINE)[1] for key in ('ExecStart', 'EnvironmentFile')]
+    must(all(os.path.isfile(os.path.join(root, each)) for each in named), f'{UNIT} names {named}')
+    return ['hnd.service']
+
+
+def check_libraries(home, root):
+    """A program takes the static library with or without its memory, and the shared one; pkg-config is told of them."""
+    folder, top = os.path.join(root, LIBRARIES), os.path.join(root, SHARE)
+    words = ['gcc', '-std=c11', '-O1', '-I', os.path.join(root, 'usr/include'), '-o', os.path.join(home.to, 'events'), os.path.join(top, 'checks/c/events.c')]
+    ways = {'the library': [os.path.join(top, 'include/hn_heap.c'), os.path.join(folder, 'rulercress', os.path.basename(LIBRARY))]}
+    if shutil.which('make') and shutil.which('cc'):
+        told = common.read(os.path.join(folder, 'pkgconfig/hn_router_c.pc'))
+        must('prefix=/usr' in told and f'libdir=/{LIBRARIES}' in told, f'hn_router_c.pc: {told}')
+        ways.update({'the static library': [os.path.join(folder, os.path.basename(LIBRARY))], 'the shared library': [f'-L{folder}', '-lhn_router_c']})
+    for given in ways.values() if 'library' in home.real else ():
+        output([*words, *given])
+        output(['env', f'LD_LIBRARY_PATH={folder}', os.path.join(home.to, 'events')])
+    return list(ways) if 'library' in home.real else []
 
 
 def check_lintian(path):
@@ -115,7 +154,8 @@ def check_lintian(path):
 
 def check_package(folder):
     """Held to: what it says of itself; owners and modes; lintian, where that is there; as root it is installed by dpkg
-    into an empty folder, where programs, tools, sums and manual pages work, and removed: nothing is left."""
+    into an empty folder, where programs, tools, the Python package, libraries, sums and manual pages work, and removed:
+    nothing is left, nor what Python kept beside its modules."""
     need('git', 'gcc', 'ar', 'true', 'dpkg-deb')
     home = Home(folder)
     path = made_twice(home)[1]

@@ -292,7 +292,7 @@ def check_contents(home, path):
     must(f'## {version}' in common.read(home.at('CHANGES.md')), f'CHANGES.md has no version {version}')
     processor = 'x86-64-v2' if home.real and home.real != ['library'] else 'x86-64'
     must_be([*about[:3], *about[4:]], ['Rulercress for x86-64 Linux', f'version {version}', f'commit {home.git("rev-parse", "HEAD")}', f'kit {home.kit}',
-                                        f'processor of the programs: {processor}', 'processor of the library: x86-64-v2'], 'RELEASE')
+                                        f'processor of the programs: {processor}', 'processor of the library: x86-64'], 'RELEASE')
     return os.path.join(place, title)
 
 
@@ -334,9 +334,9 @@ def has_mnl():
 
 
 def check_release(folder):
-    """Held to: a repository of its own, with stand-ins for what is not built: each refusal above leaves nothing, and
-    so does a write that fails; two archives are the same, with other times and another mask; names, modes, owners,
-    times and sums. It needs git and gcc The archive is unpacked in an empty folder: with no kit on the path the
+    """Held to: a repository of its own, with stand-ins for what is not built: each refusal of a tree, of what is
+    built and of a folder leaves nothing, and so does a write that fails; two archives are the same, with other times and another mask; names, modes, owners,
+    times and sums. It needs git and gcc. The archive is unpacked in an empty folder: with no kit on the path the
     programs give the repository's texts, `checks/samples` prints what it prints here, some checks pass, and gcc
     builds the daemon; with the real library it runs `checks/c/events.c`."""
     need('git', 'gcc', 'ar', 'true')

@@ -10,7 +10,9 @@ Each examination has a rule of an RFC, and ends with a verdict:
 
 The device is the one HNCP node that is heard on the interface. With two interfaces it stands between two links. The examiner
 takes identifiers of its own, and leaves nothing behind that does not time out; the examinations of `identifier` make the device
-take a new identifier. At the end tools/judge is held over what was captured, which takes tshark and hncp.
+take a new identifier. At the end tools/judge is held over what was captured, which takes tshark and hncp. Of its findings those
+on the device count, but for `network-hash` and `number-falls`: answers in several datagrams that overtake each other can show
+these. In a report for test servers a failure is `failure` with MUST or SHOULD as its type, and `cannot-tell` is `skipped`.
 
 It needs Linux, root (CAP_NET_RAW), a link-local address on each interface, and no other program on UDP port 8231 of that address.
 The status is 0 if nothing failed, 3 if something did, 1 if an interface, a right, a file or the device is missing, also where the

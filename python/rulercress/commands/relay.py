@@ -3,8 +3,9 @@
   tools/relay eth0 --file uplink.node
 
 It joins ff02::11 on the interface (RFC 7788, section 3). Each neighbour that sends from a link-local address gets a port of its
-own on the loopback, from which the node hears it, and what the node sends there goes to that neighbour. What the node sends by
-multicast goes to ff02::11. The node is endpoint 1 of itself, and its ports are PORT to PORT + 3 of 127.0.0.1.
+own on the loopback, from which the node hears it, and what the node sends there goes to that neighbour. A 65th neighbour takes
+the place of another one: of the address with the most ports the port that was silent for longest. So a host that asks from many
+ports keeps nobody away. What the node sends by multicast goes to ff02::11. The node is endpoint 1 of itself, and its ports are PORT to PORT + 3 of 127.0.0.1.
 
 The node ends after its turns; a turn where nothing comes takes some milliseconds. Then the line of the node is
 written, and one that counts what went over the link. Nothing is left behind, also where it is ended by Ctrl-C or by SIGTERM.

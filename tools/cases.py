@@ -45,6 +45,12 @@ def played(home, until, prefixes=()):
     return [*left(home, until, prefixes), 'mail', 'show r1', f'compare r1 r{count // 2 + 1}']
 
 
+def advertised(count, until):
+    """The same of a ring with a prefix, whose endpoints send Router Advertisements."""
+    sending = [f'radv r{k} {endpoint}' for k in range(1, count + 1) for endpoint in (1, 2)]
+    return ['hncp 2', *played(ring(count), until, [PREFIX, *sending])[1:]]
+
+
 def many_prefixes():
     """Eight delegated prefixes at each of four routers of a ring of 16."""
     routers = ['r1', 'r5', 'r9', 'r13']
@@ -139,6 +145,7 @@ HOMES = [
     script('link-64-prefix', '64 on one link with a prefix, 20 s', played(one_link(64), 20000, [PREFIX])),
     script('ring-16-prefixes', 'ring of 16, eight prefixes at each of four routers, 30 s',
            played(ring(16), 30000, many_prefixes())),
+    script('ring-4-radv', 'ring of 4 with a prefix, version 2, 2,000 s, `radv` on its 8 endpoints', advertised(4, 2000000)),
     script('link-128-loss', '128 on one link with a prefix, version 2, five of a hundred copies lost, until the 1,000,001st '
            'event or copy', ['hncp 2', 'seed 7', 'loss 5', *one_link(128), PREFIX, 'run 100000000 100'], FULL),
 ]

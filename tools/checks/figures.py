@@ -14,7 +14,7 @@ import common
 from checks.helpers import copy_tools, must, must_be, run
 
 NAMES = ['soak-32', 'soak-8', 'ring-8-idle', 'ring-8-prefix', 'ring-32-prefix', 'link-64', 'link-64-prefix', 'ring-16-prefixes',
-         'link-128-loss']
+         'ring-4-radv', 'link-128-loss']
 # The SHA-256 of the scripts by which the figures of the page were taken before there was this tool.
 SCRIPTS = {
     'ring-8-idle': 'd003688bec706a562b100901fbbc9d88f01d784b59f0c7d885d29c576f0b2cd3',
@@ -25,7 +25,7 @@ SCRIPTS = {
     'ring-16-prefixes': '5f326be0e00465da8db981a733eaafa01155743645750d179fc18208cdd98568',
 }
 ABC = '`ba7816bf8f01cfea`'       # SHA-256 of "abc" begins so (FIPS 180-4, its first example)
-LIMIT = '[ "$first" = "hncp 2" ] && { echo refused 262 9; exit 2; }'
+LIMIT = '[ "$second" = "seed 7" ] && { echo refused 262 9; exit 2; }'
 SOUND = f'{LIMIT}\nprintf abc'
 VALGRIND = """#!/bin/sh
 [ "$1" = --version ] && { echo valgrind-0; exit; }
@@ -63,8 +63,8 @@ def put_program(folder, name, text):
 
 
 def program(folder, name, body):
-    """A program of the shell that has read the first line of its input."""
-    return put_program(folder, name, f'#!/bin/sh\nread -r first\n{body}\n')
+    """A program of the shell that has read the first two lines of its input."""
+    return put_program(folder, name, f'#!/bin/sh\nread -r first\nread -r second\n{body}\n')
 
 
 def python(folder, name, body):
@@ -132,8 +132,8 @@ def check_tables(folder):
         must(cells[5] == '1' and (cells[6] == ABC) == (name != 'link-128-loss'), f'the row of {name}: {cells}')
     put_program(bare, 'valgrind', VALGRIND)
     made, text = table_of('--program', sound, '--baseline', other, '--rounds', '1', env={'PATH': bare})
-    must_be([cells[2] for cells in made.values()], ['98.8 (0.06 of 1,757)'] * 9, 'the instructions')
-    must_be([cells[-1] for cells in made.values()], ['the same'] * 9, 'the transcripts')
+    must_be([cells[2] for cells in made.values()], ['98.8 (0.06 of 1,757)'] * len(NAMES), 'the instructions')
+    must_be([cells[-1] for cells in made.values()], ['the same'] * len(NAMES), 'the transcripts')
     must('valgrind-0' in text, 'nothing is said of the valgrind')
     program(bare, 'valgrind', 'echo no such tool >&2; exit 1')
     must_fail('counted nothing of', '--program', sound, '--only', 'soak-8', env={'PATH': bare})
@@ -249,7 +249,7 @@ def check_pages_that_are_written(folder, begin, end):
     os.chmod(page, 0o640)
     for _ in range(2):
         status, text, messages = bench('--write', *QUICK, '--program', sound, top=folder)
-        must(status == 0 and text == 'docs/BENCHMARKS.md: 9 homes\n', f'--write: status {status}, {text}{messages}')
+        must(status == 0 and text == f'docs/BENCHMARKS.md: {len(NAMES)} homes\n', f'--write: status {status}, {text}{messages}')
         text = read_page(page)
         must(text.startswith(before) and text.endswith(after), 'what is not between the marks has changed')
         table = text[len(before):-len(after)]

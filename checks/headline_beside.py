@@ -26,6 +26,7 @@ For a reader who has read [HEADLINE](HEADLINE.md), which has the words and signs
 | `wire`, `clock` | what datagrams are sent over, and what tells the moments |
 | `result.status` | the exit status, 0 to 6 |
 | `result.world` | the world to which a script led, if there is one |
+| `world_parts result.world` | what this world is; it leaves out whether the trace is kept for reading |
 | `result.served` | what came of the router of `node`, if it is that form |
 
 | Word | Means |

@@ -42,7 +42,7 @@ All forms call one function, `run`. A named promise of `run` is a **clause**, an
 CLAIMED = '''- **`headline`**: two routers with equal network state hashes hold equal node data, or there is a **collision**: two different texts that they hash have one hash.
 - **`settled`**: a running router that is settled and quiet is sound.
 
-Both are said of the home at the end of the play, `result.world`, and of each earlier moment. If a line of the script cannot be read, or memory ends, there is no world, and they say nothing.
+Both are said of the home at the end of the play, `result.world`, and of each earlier moment. `world_parts` leaves out whether the trace is kept for reading. If a line of the script cannot be read, or memory ends, there is no world, and they say nothing.
 
 | Word | Means |
 |---|---|

@@ -64,8 +64,13 @@ fn begin<D: Draw>(alloc: Global, id: NodeId, now: Moment, draw: &mut D) -> Resul
     endpoints_follow();
     let mut router = Router::new(alloc, id, now)?;
     let attach = Event::Attach { endpoint: ENDPOINT };
-    happens(alloc, &mut router, &attach, now, draw)?;
-    Ok(router)
+    match happens(alloc, &mut router, &attach, now, draw) {
+        Ok(()) => return Ok(router),
+        Err(error) => {
+            drop(router);
+            return Err(error);
+        }
+    }
 }
 
 /// Whether a line is a delegated prefix that the router may not have.
@@ -126,9 +131,13 @@ pub fn set_up<D: Draw>(
     let mut router = begin(alloc, id, now, draw)?;
     for (number, line) in lines {
         if is_too_many(&router, line) {
+            drop(router);
             return Err(SetupFault::Overfull(*number));
         }
-        apply(alloc, &mut router, line, now, draw)?;
+        let Ok(()) = apply(alloc, &mut router, line, now, draw) else {
+            drop(router);
+            return Err(SetupFault::NoMemory);
+        };
     }
     Ok(router)
 }

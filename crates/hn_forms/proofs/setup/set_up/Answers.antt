@@ -9,7 +9,7 @@ loop-number-preserved g c =
     let i = c.loop-number.number-index in
     let item = c.loop-number-item.result in
     let up = c.loop-number.invariant.set_up in
-    let done = c.in_ok-apply.ensures.happened in
+    let done = c.in-Ok.ensures.happened in
     let more = set_up_more c.args.id (take i lines) item c.args.now up.0 c.loop-number.router c.apply.new.router done.0 up.1 (sym c.is_too_many.ensures ∙ c.if-is_too_many.false) done.1 in
     let items = ap (λ (x : ℕ × NodeLine). take i lines ++ x ∷ []) c.loop-number-item.is in
     record {
@@ -18,8 +18,8 @@ loop-number-preserved g c =
         subst (λ (xs : List (ℕ × NodeLine)). IsSetUp c.args.id xs c.args.now (up.0 ++ done.0.words) c.apply.new.router) (items ∙ sym (take_more lines i item c.loop-number-test.true)) more,
         c.words_join.ensures (g.D.Draw.words c.args.draw.now) (g.D.Draw.words c.loop-number.draw) (g.D.Draw.words c.apply.new.draw) up.0 done.0.words up.2 done.2,
       );
-      ends = c.in_ok-apply.ensures.ends ∙ c.loop-number.invariant.ends;
-      moment = c.in_ok-apply.ensures.moment;
+      ends = c.in-Ok.ensures.ends ∙ c.loop-number.invariant.ends;
+      moment = c.in-Ok.ensures.moment;
     }
 
 pub returns-then-is_too_many-clause-overfull : goal.returns-then-is_too_many-clause-overfull

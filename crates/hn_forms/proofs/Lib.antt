@@ -1,5 +1,5 @@
 mod Names
-mod HexDigits
+mod HexDecoded
 mod Forms
 mod Streams
 mod Cut

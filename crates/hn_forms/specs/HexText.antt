@@ -1,5 +1,8 @@
-use Rattle.std.specs.Prelude.{◌≡◌, ℕ, Bool, not, ◌==◌, ◌||◌, List, Ok, IsErr, filter}
+-- Hexadecimal text, between whose digits blanks stand.
+use Rattle.std.specs.Prelude.{◌≡◌, ℕ, Bool, true, false, not, ◌==◌, ◌||◌, List, Ok, IsErr, filter}
 use Rattle.hex.specs.Hex.{decode_of}
+use Rattle.hex.specs.declared.error.FromHexError.{FromHexError}
+use Rattle.hex.specs.declared.error.FromHexError.TheVariants.{OutOfMemory}
 
 -- a space or LF
 abbrev pub is_blank : ℕ → Bool
@@ -16,3 +19,8 @@ IsHexText text octets = decode_of (unblanked text) ≡ Ok octets
 -- another byte, or an odd number of digits
 abbrev pub IsNoHexText : List ℕ → Type 0
 IsNoHexText text = IsErr (decode_of (unblanked text))
+
+-- memory ended before the text was decoded
+abbrev pub is_out_of_memory : FromHexError → Bool
+is_out_of_memory OutOfMemory = true
+is_out_of_memory _ = false

@@ -9,7 +9,7 @@ ghost use Rattle.hn_forms.specs.Decode.{SpellsTlvs, IsContentsOf, IsDecodeOf, Wr
 ghost use Rattle.hn_forms.specs.Outcome.{IsDecodeRun};
 ghost use Rattle.hn_streams.specs.Output.{AppendsCut};
 
-use crate::hex_text::octets_of;
+use crate::hex_text::{is_out_of_memory, octets_of};
 use crate::output::write_lines;
 use crate::report::malformed_line;
 use crate::status::{DONE, NO_MEMORY, REFUSED, SINK_FAILED, SOURCE_FAILED, written_status};
@@ -117,12 +117,18 @@ fn write_decoded<K: Sink>(alloc: Global, source: Vec<u8>, out: &mut K) -> u8
     ensures caused { IsCaused (result ≡ SINK_FAILED) (K.faults out.old) (K.faults out.new)
         (K.never_fails out.old) (K.never_fails out.new) }
 {
+    each_source_decodes();
     if source.len() > SOURCE_LIMIT {
         return written_status(&write_refusal(alloc, out, 0, LARGE), REFUSED);
     }
-    match octets_of(source) {
-        Some(octets) => write_contents(alloc, &octets, out),
-        None => written_status(&write_refusal(alloc, out, 0, MALFORMED), REFUSED),
+    match octets_of(alloc, source) {
+        Ok(octets) => write_contents(alloc, &octets, out),
+        Err(why) => {
+            if is_out_of_memory(&why) {
+                return NO_MEMORY;
+            }
+            written_status(&write_refusal(alloc, out, 0, MALFORMED), REFUSED)
+        }
     }
 }
 

@@ -1,6 +1,8 @@
-ghost use Rattle.std.specs.Prelude.{◌≡◌, ◌<◌, ℕ, Some, IfSome, IfNone, slice_get};
-ghost use Rattle.hex.specs.Hex.{hex_digit_value};
-ghost use Rattle.hn_forms.specs.HexText.{is_blank, IsHexText, IsNoHexText};
+ghost use Rattle.std.specs.Prelude.{◌≡◌, false, IfOk, IfErr};
+ghost use Rattle.hn_forms.specs.HexText.{is_blank, unblanked, IsHexText, IsNoHexText, is_out_of_memory};
+
+use hex::FromHexError;
+use std::alloc::Global;
 
 /// Whether the byte is skipped.
 fn is_blank(byte: u8) -> bool
@@ -9,58 +11,29 @@ fn is_blank(byte: u8) -> bool
     byte == b' ' || byte == b'\n'
 }
 
-/// The value of a hexadecimal digit of either case.
-fn digit_value(byte: u8) -> Option<u8>
-    ensures { result ≡ hex_digit_value byte }
+/// Takes spaces and LF out of a text, in place. Never allocates.
+fn unblank(text: &mut Vec<u8>)
+    ensures { text.new.items ≡ unblanked text.old.items }
 {
-    match byte {
-        b'0'..=b'9' => Some(byte - b'0'),
-        b'a'..=b'f' => Some(byte - b'a' + 10),
-        b'A'..=b'F' => Some(byte - b'A' + 10),
-        _ => None,
-    }
+    text.retain(|byte| !is_blank(*byte));
 }
 
-/// The value of each byte as a digit.
-fn digit_values() -> [Option<u8>; 256]
-    ensures { (byte : ℕ) → byte < 256 → slice_get result byte ≡ Some (hex_digit_value byte) }
+/// The octets that hexadecimal digits of either case write. Spaces and LF are skipped anywhere.
+///
+/// # Errors
+///
+/// Another byte, or an odd number of digits; else out of memory.
+pub fn octets_of(alloc: Global, mut text: Vec<u8>) -> Result<Vec<u8>, FromHexError>
+    ensures octets { IfOk result (λ octets. IsHexText text.items octets.items) }
+    ensures refused { IfErr result (λ why. is_out_of_memory why ≡ false → IsNoHexText text.items) }
 {
-    let mut values = [None; 256];
-    for byte in 0..256 {
-        values[byte] = digit_value(byte as u8);
-    }
-    values
+    unblank(&mut text);
+    hex::decode(alloc, text.as_slice())
 }
 
-/// The octets that hexadecimal digits of either case write, in the memory of the text. Spaces and LF are skipped
-/// anywhere; `None` if and only if the text has another byte, or an odd number of digits. Never allocates.
-pub fn octets_of(mut text: Vec<u8>) -> Option<Vec<u8>>
-    ensures octets { IfSome result (λ octets. IsHexText text.items octets.items) }
-    ensures refused { IfNone result (IsNoHexText text.items) }
+/// Whether memory ended before a text was decoded.
+pub fn is_out_of_memory(why: &FromHexError) -> bool
+    ensures { result ≡ is_out_of_memory why.now }
 {
-    let values = digit_values();
-    let mut count = 0;
-    let mut high = None;
-    for at in 0..text.len() {
-        let byte = text[at];
-        let Some(value) = values[usize::from(byte)] else {
-            if is_blank(byte) {
-                continue;
-            }
-            return None;
-        };
-        match high {
-            None => high = Some(value),
-            Some(first) => {
-                text[count] = first * 16 + value;
-                count += 1;
-                high = None;
-            }
-        }
-    }
-    if high.is_some() {
-        return None;
-    }
-    text.truncate(count);
-    Some(text)
+    matches!(why, FromHexError::OutOfMemory)
 }

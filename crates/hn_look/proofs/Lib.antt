@@ -1,6 +1,7 @@
 mod Names
 mod Lists
 mod Streams
+mod LastLines
 mod Replays
 mod Refusals
 mod Looks

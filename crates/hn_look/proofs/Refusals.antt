@@ -1,12 +1,11 @@
--- The last line of the transcript of a script that was refused.
-use Rattle.hn_base.proofs.Names.{◌≡◌, ◌≢◌, ◌⊎◌, ◌∙◌, ◌+◌, ◌-◌, ◌/◌, ◌%◌, ◌<◌, ◌≤◌, ℕ, zero, suc, Bool, true, false, not, List, [], ◌∷◌, ◌++◌, Option, Some, length, length-append, get_or, take, drop}
-use Rattle.hn_base.proofs.Names.{⊎_elim, lit<, inl, inr, refl, sym, ap, subst, codes, arith, ◌==◌, ◌&&◌, if◌then◌else◌, decimal, digits_onto, digit_glyph, list_all, flat_map-append}
-use Rattle.hn_base.proofs.Names.{get_or-append_right, get_or-append_seam, lt-ltb, ne_eqb, eqb-true, cases_lt, drop_at, take_rest, mod_below}
+-- The line of the refusal with which the transcript of a refused script ends.
+use Rattle.hn_base.proofs.Names.{◌≡◌, ◌≢◌, ◌⊎◌, ◌∙◌, ◌+◌, ◌/◌, ◌%◌, ◌<◌, ℕ, zero, suc, Bool, true, false, List, [], ◌∷◌, ◌++◌, Option, Some}
+use Rattle.hn_base.proofs.Names.{lit<, inl, inr, refl, sym, ap, subst, codes, arith, ◌==◌, if◌then◌else◌, decimal, digits_onto, digit_glyph, flat_map-append}
+use Rattle.hn_base.proofs.Names.{lt-ltb, ne_eqb, mod_below}
 use Rattle.hn_look.proofs.Names.{append-nil, IoFault, Parts, EndsRefused, IsLookRun}
+use Rattle.hn_look.specs.LastLine.{AreOther, is_other}
 use Rattle.std.specs.Fmt.{digits}
 use Rattle.std.specs.Prelude.{Result}
-use Rattle.std.proofs.lemmas.List.Folds.{list_all-append}
-use Rattle.memchr.specs.Find.{NoneAfter, Nowhere, Passes, is_byte}
 use Rattle.hn_lab.specs.Lab.{IsLabRun, IsLabOf, status_of}
 use Rattle.hn_lab.specs.Play.{IsPlay}
 use Rattle.hn_streams.specs.Refusal.{refused_line}
@@ -15,96 +14,41 @@ use Rattle.hn_lab.specs.Told.{Told, told, bytes_of}
 use Rattle.hn_lab.specs.declared.end.End.{End}
 use Rattle.hn_lab.specs.declared.end.End.TheVariants.{Done, Refused, WireFailed}
 use Rattle.hn_look.specs.Look.{IsLook, Looked, looked_status}
+use Rattle.hn_look.proofs.LastLines.{both}
 use Rattle.hn_look.proofs.Streams.{Appends-none}
 
 -- ---- the line has one `r`
 
-abbrev pub other : ℕ → Bool
-other c = not (c == 114)
-
-glyph_other : (n : ℕ) → other (digit_glyph false (n % 10)) ≡ true
+glyph_other : (n : ℕ) → is_other (digit_glyph false (n % 10)) ≡ true
 glyph_other n =
     let below : n % 10 < 10 = mod_below n 10 (lit< tt) in
     rw (lt-ltb (n % 10) 10 below) (rw (ne_eqb (48 + n % 10) 114 (λ same. omega arith)) refl)
 
-choose : (b : Bool) (xs ys : List ℕ) → list_all other xs ≡ true → list_all other ys ≡ true → list_all other (if b then xs else ys) ≡ true
+choose : (b : Bool) (xs ys : List ℕ) → AreOther xs → AreOther ys → AreOther (if b then xs else ys)
 choose true xs ys h k = h
 choose false xs ys h k = k
 
-digits_other : (k n : ℕ) (acc : List ℕ) → list_all other acc ≡ true → list_all other (digits_onto k 10 false n acc) ≡ true
+digits_other : (k n : ℕ) (acc : List ℕ) → AreOther acc → AreOther (digits_onto k 10 false n acc)
 digits_other zero n acc h = h
 digits_other (suc k) n acc h =
-    let more : list_all other (digit_glyph false (n % 10) ∷ acc) ≡ true = rw (glyph_other n, h) refl in
+    let more : AreOther (digit_glyph false (n % 10) ∷ acc) = rw (glyph_other n, h) refl in
     choose (n / 10 == 0) (digit_glyph false (n % 10) ∷ acc) (digits_onto k 10 false (n / 10) (digit_glyph false (n % 10) ∷ acc)) more (digits_other k (n / 10) (digit_glyph false (n % 10) ∷ acc) more)
 
-decimal_other : (n : ℕ) → list_all other (decimal n) ≡ true
+decimal_other : (n : ℕ) → AreOther (decimal n)
 unfolding digits
 decimal_other n = digits_other 64 n [] refl
-
-both : (xs ys : List ℕ) → list_all other xs ≡ true → list_all other ys ≡ true → list_all other (xs ++ ys) ≡ true
-both xs ys h k = list_all-append other xs ys ∙ (rw (h, k) refl)
-
-first_other : (c : ℕ) (tail : List ℕ) → c ≡ 114 → list_all other (c ∷ tail) ≡ true → ⊥
-first_other c tail is all =
-    let no : false ≡ true = ap (λ n. other n && list_all other tail) (sym is) ∙ all in
-    absurd cc
-
-rest_other : (a b : Bool) → (a && b) ≡ true → b ≡ true
-rest_other true b h = h
-rest_other false b h = absurd cc
 
 -- what follows the `r`
 abbrev pub tail_of : ℕ → ℕ → List ℕ
 tail_of number code = codes "efused " ++ decimal number ++ codes " " ++ decimal code ++ 10 ∷ []
 
-pub tail_other : (number code : ℕ) → list_all other (tail_of number code) ≡ true
+pub tail_other : (number code : ℕ) → AreOther (tail_of number code)
 tail_other number code =
     let front : List ℕ = codes "efused " ++ decimal number in
-    let one : list_all other front ≡ true = both (codes "efused ") (decimal number) refl (decimal_other number) in
-    let two : list_all other (front ++ codes " ") ≡ true = both front (codes " ") one refl in
-    let three : list_all other (front ++ codes " " ++ decimal code) ≡ true = both (front ++ codes " ") (decimal code) two (decimal_other code) in
+    let one : AreOther front = both (codes "efused ") (decimal number) refl (decimal_other number) in
+    let two : AreOther (front ++ codes " ") = both front (codes " ") one refl in
+    let three : AreOther (front ++ codes " " ++ decimal code) = both (front ++ codes " ") (decimal code) two (decimal_other code) in
     both (front ++ codes " " ++ decimal code) (10 ∷ []) three refl
-
-pub line_is : (number code : ℕ) → refused_line number code ≡ 114 ∷ tail_of number code
-line_is number code = refl
-
--- no byte of the tail is an `r`
-each_other : (tail : List ℕ) (j : ℕ) → list_all other tail ≡ true → j < length tail → get_or tail j 0 ≡ 114 → ⊥
-each_other [] j all within is = absurd (omega arith)
-each_other (c ∷ tail) zero all within is = first_other c tail is all
-each_other (c ∷ tail) (suc j) all within is = each_other tail j (rest_other (other c) (list_all other tail) all) (omega arith) is
-
--- where a text ends with an `r` and such a tail, its last `r` is that one
-module _ (hay front tail : List ℕ) (is : hay ≡ front ++ 114 ∷ tail) (all : list_all other tail ≡ true) where
-  long : length hay ≡ length front + suc (length tail)
-  long = ap length is ∙ length-append front (114 ∷ tail)
-
-  at_front : Passes (is_byte 114) hay (length front)
-  at_front = ap (λ (xs : List ℕ). get_or xs (length front) 0 == 114) is ∙ ap (λ c. c == 114) (get_or-append_seam front 114 tail 0)
-
-  not_later : (k : ℕ) → length front < k → k < length hay → Passes (is_byte 114) hay k → ⊥
-  not_later k later within passes =
-      let at : get_or hay k 0 ≡ 114 = eqb-true (get_or hay k 0) 114 passes in
-      let right : get_or hay k 0 ≡ get_or (114 ∷ tail) (k - length front) 0 = ap (λ (xs : List ℕ). get_or xs k 0) is ∙ get_or-append_right front (114 ∷ tail) k 0 (omega arith) in
-      let place : k - length front ≡ suc (k - length front - 1) = omega arith in
-      let total = long in
-      each_other tail (k - length front - 1) all (omega arith) (ap (λ j. get_or (114 ∷ tail) j 0) (sym place) ∙ sym right ∙ at)
-
-  last_is : (place : ℕ) → NoneAfter (Passes (is_byte 114) hay) 0 (length hay) place → Passes (is_byte 114) hay place → place ≡ length front
-  last_is place none passes =
-      let total = long in
-      let high = none.high in
-      ⊎_elim (λ (low : place < length front). absurd (none.after (length front) (omega arith) (omega arith) at_front))
-      (λ (rest : length front ≤ place).
-      ⊎_elim (λ (later : length front < place). absurd (not_later place later high passes)) (λ (past : place ≤ length front). omega arith) (cases_lt (length front) place))
-      (cases_lt place (length front))
-
-  pub found_there : (place : ℕ) → NoneAfter (Passes (is_byte 114) hay) 0 (length hay) place × Passes (is_byte 114) hay place → take (length hay - place) (drop place hay) ≡ 114 ∷ tail
-  found_there place (none, passes) =
-      take_rest hay place ∙ ap (λ n. drop n hay) (last_is place none passes) ∙ ap (drop (length front)) is ∙ drop_at front (114 ∷ tail) (length front) refl
-
-  pub found_somewhere : Nowhere (Passes (is_byte 114) hay) 0 (length hay) → ⊥
-  found_somewhere nowhere = let total = long in nowhere (length front) (omega arith) (omega arith) at_front
 
 -- ---- a transcript ends with it
 
@@ -148,14 +92,13 @@ ends_refused left world status transcript run two =
     (ends.0, subst (λ (xs : List ℕ). EndsRefused xs ends.0) (sym run.appends) ends.1)
 
 -- of the transcript of a play that was refused
-pub ends_so : (left : Option (List ℕ)) (world : Option Parts) (status : ℕ) (held after transcript : List ℕ) → held ≡ [] → transcript ≡ after
+pub ends_so : (left : Option (List ℕ)) (world : Option Parts) (status : ℕ) (held after : List ℕ) → held ≡ []
     → (status ≢ 3 → IsLabRun Mail Mail left status world (Some held) (Some after)) → status ≡ 2
-    → (line : List ℕ) × EndsRefused transcript line
-ends_so left world status held after transcript none same run two =
+    → (line : List ℕ) × EndsRefused after line
+ends_so left world status held after none run two =
     let played : IsLabRun Mail Mail left status world (Some held) (Some after) = run (λ three. omega arith) in
     let begun : IsLabRun Mail Mail left status world (Some []) (Some after) = subst (λ (xs : List ℕ). IsLabRun Mail Mail left status world (Some xs) (Some after)) none played in
-    let ends = ends_refused left world status after begun two in
-    (ends.0, subst (λ (xs : List ℕ). EndsRefused xs ends.0) (sym same) ends.1)
+    ends_refused left world status after begun two
 
 -- the line that was found is that one
 pub line_found : (transcript line found : List ℕ) → EndsRefused transcript line
@@ -180,12 +123,12 @@ not_three played (inl done) three = omega arith
 not_three played (inr two) three = omega arith
 
 -- a look at the world of a play that was done, or refused
-pub looked_at : (Starving : Type 0) (sees : Parts → ℕ → List ℕ → Type 0) (left : Option (List ℕ)) (world : Option Parts) (played : ℕ) (held after transcript : List ℕ)
-    (before last : Option (List ℕ)) (status : ℕ) (answer : Result ℕ IoFault) → held ≡ [] → transcript ≡ after
+pub looked_at : (Starving : Type 0) (sees : Parts → ℕ → List ℕ → Type 0) (left : Option (List ℕ)) (world : Option Parts) (played : ℕ) (held after : List ℕ)
+    (before last : Option (List ℕ)) (status : ℕ) (answer : Result ℕ IoFault) → held ≡ []
     → (played ≢ 3 → IsLabRun Mail Mail left played world (Some held) (Some after)) → (played ≡ 0) ⊎ (played ≡ 2)
-    → status ≡ looked_status answer → Looked Starving (IsLook sees played world transcript) answer before last
+    → status ≡ looked_status answer → Looked Starving (IsLook sees played world after) answer before last
     → IsLookRun Starving sees left status before last
-looked_at Starving sees left world played held after transcript before last status answer none same run ended is looked = record {
+looked_at Starving sees left world played held after before last status answer none run ended is looked = record {
   played = played;
   world = world;
   transcript = after;
@@ -193,6 +136,6 @@ looked_at Starving sees left world played held after transcript before last stat
   comes = inr (record {
     answer = answer;
     status_is = is;
-    looked = subst (λ (xs : List ℕ). Looked Starving (IsLook sees played world xs) answer before last) same looked;
+    looked = looked;
   });
 }

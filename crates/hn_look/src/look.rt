@@ -5,7 +5,7 @@ ghost use Rattle.hn_io.specs.Faults.{IsCaused};
 ghost use Rattle.hn_world.specs.SeenWorld.{world_parts};
 ghost use Rattle.hn_look.specs.Look.{Sees, SeesOf, EndsRefused, IsLook, MayStarve, Looked};
 
-use crate::last_line::refusal_of;
+use crate::last_line::{LastLine, refusal_of};
 use crate::log::write_log;
 use crate::named::{write_calm, write_table, write_why};
 use crate::status::{DONE, REFUSED};
@@ -58,7 +58,7 @@ pub(crate) fn look<K: Sink>(
     alloc: Global,
     form: &Form,
     played: &Played,
-    transcript: &[u8],
+    transcript: &LastLine,
     out: &mut K,
 ) -> Result<u8, IoFault>
     requires ended { (played.now.status ≡ 0) ⊎ (played.now.status ≡ 2) }

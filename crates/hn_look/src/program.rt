@@ -7,17 +7,18 @@ ghost use Rattle.hn_base.specs.Name.{name_text};
 ghost use Rattle.hn_base.specs.declared.name.Name.{Name};
 ghost use Rattle.hn_look.specs.declared.words.Form.{Form};
 
+use crate::last_line::LastLine;
 use crate::look::look;
 use crate::status::{
     BAD_USAGE, DONE, NO_MEMORY, REFUSED, SINK_FAILED, SOURCE_FAILED, looked_status,
 };
 use crate::words::Form;
-use hn_io::{MemSink, Sink, Source};
+use hn_io::{Sink, Source};
 use hn_lab::lab_by_mail;
 use std::alloc::Global;
 
-/// Reads a script, plays it by mail with its transcript in memory, and looks at the world that it led to. The trace is
-/// recorded for a log alone. Answers the status.
+/// Reads a script, plays it by mail, and looks at the world that it led to. Of the transcript the last line is kept, and
+/// the trace is recorded for a log alone. Answers the status.
 fn play_and_look<S: Source, K: Sink>(alloc: Global, form: &Form, src: &mut S, out: &mut K) -> u8
     ensures look { result ≢ SOURCE_FAILED → IsLookRun (MayStarve form.now) (Sees form.now) (S.left src.old) result (K.held out.old) (K.held out.new) }
     ensures statuses { Contains (DONE ∷ REFUSED ∷ SOURCE_FAILED ∷ SINK_FAILED ∷ NO_MEMORY ∷ []) result }
@@ -28,13 +29,13 @@ fn play_and_look<S: Source, K: Sink>(alloc: Global, form: &Form, src: &mut S, ou
     ensures unwritten { result ≡ SOURCE_FAILED → out.new ≡ out.old }
     ensures bounded { (read : List ℕ) × (length read ≤ 2 ^ 24 + 1) × Consumes (S.left src.old) (S.left src.new) read }
 {
-    let mut transcript = MemSink::new(alloc, Vec::new(alloc));
+    let mut transcript = LastLine::new(alloc);
     let recorded = matches!(form, Form::Log);
     let played = lab_by_mail(alloc, recorded, src, &mut transcript);
     if played.status != DONE && played.status != REFUSED {
         return played.status;
     }
-    looked_status(&look(alloc, form, &played, transcript.held(), out))
+    looked_status(&look(alloc, form, &played, &transcript, out))
 }
 
 /// Runs the program: `words` are those of the command line, the program's name first. Each form reads a script and plays

@@ -95,11 +95,11 @@ GLOSSES = {
     'hn_audit/specs/Quiet.antt: IsQuietByRules': 'as IsQuiet of HEADLINE, as the rules find it',
     'hn_audit/specs/Settled.antt: IsSettledByRules': 'as IsSettled of HEADLINE, as the rules find it',
     'hn_streams/specs/Output.antt: IsFrontOf': 'the first text is a front of the second',
-    'hn_lab/specs/Play.antt: begun':
+    'hn_play/specs/Stage.antt: begun':
         'where the play of a script begins: nothing has happened, no copy is lost, each random number is 0, no endpoint sends '
         'Router Advertisements, and there is no text',
     'hn_lab/specs/Lab.antt: IsLabRun': 'the status, the world and the text are those of a play of the bytes that were read, or of their first fault',
-    'hn_lab/specs/Told.antt: bytes_of': 'the lines of a text, one after another',
+    'hn_play/specs/Told.antt: bytes_of': 'the lines of a text, one after another',
     'hn_world/specs/Replay.antt: IsReplayed': 'the world is the replay of its own trace',
     'hn_world/specs/Within.antt: AreWithinLimits':
         'each router, and each copy of a datagram that was ever sent, is within the limits that MODEL lists',

@@ -1,10 +1,11 @@
 -- In the set of a settled router whose routers are still no address is published twice.
 use Rattle.hn_base.proofs.Names.{◌≡◌, ◌≢◌, ◌<◌, Contains, sym, ap, subst, inl, inr, arith, cases_lt}
-use Rattle.hn_lab.proofs.Names.{StillAddressesStay, same_node, NodeId, HasVersion, OwnAddress, OwnVersionIsSaid, OwnAddressesAreSaid, seen_by, Member, Parts, IsReached, AreAddressesStill}
+use Rattle.hn_lab.proofs.Names.{StillAddressesStay, same_node, NodeId, HasVersion, OwnVersionIsSaid, OwnAddressesAreSaid, seen_by, Member, Parts, IsReached, AreAddressesStill}
 use Rattle.hn_addr.specs.Addresses.{IsAddressOfOther}
 use Rattle.hn_data.specs.Said.{HasAddress}
 use Rattle.hn_lab.specs.AddressReports.{AreAlone}
 use Rattle.hn_lab.proofs.Sets.{IsKnown, router_of, seen_of}
+use Rattle.hn_own.specs.Addresses.{OwnAddress}
 
 module _ (version : OwnVersionIsSaid) (said : OwnAddressesAreSaid) (stays : StillAddressesStay) (w : Parts) (r : Member) (known : IsKnown w r) (still : AreAddressesStill w r) where
   -- what one of the set publishes is, to another of it, an address of another node

@@ -1,16 +1,9 @@
 -- A router that chooses for itself: how the two words for it end.
-use Rattle.hn_base.proofs.Names.{◌≡◌, ◌∙◌, ◌+◌, ℕ, List, [], length, Option, None, Some, inl, refl, ap, subst, arith, same_Some, name_text, Begins, IsAt, Took}
-use Rattle.hn_lab.proofs.Names.{Name, State, WEvent, Member, member_named, unless_runs, Stop, Refused, TakesWords, MayHappen, MakesChoice, Chooses, Leaves, Unless, ThenProcess, Stage, TellsLines}
-use Rattle.std.proofs.Math.Nat.{zero-add}
-use Rattle.hn_lab.proofs.RunStops.{then_on}
-
--- the words that a draw took are the first to come, and those after them are to come then
-pub taken : (words : List ℕ) (before after : ℕ → ℕ) → Took (Some before) words (Some after)
-    → Begins words before × (after ≡ (λ place. before (length words + place)))
-taken words before after took =
-    let at : IsAt (Some before) before [] = record { begins = λ i less. absurd (omega arith); rest = ap Some (simp zero-add) } in
-    let then_at = took [] before at in
-    (then_at.begins, same_Some after (λ place. before (length words + place)) then_at.rest)
+use Rattle.hn_base.proofs.Names.{◌≡◌, ◌∙◌, ℕ, List, Option, None, Some, inl, refl, ap, subst, name_text, Took}
+use Rattle.hn_lab.proofs.Names.{Name, State, WEvent, Member, member_named, unless_runs, Stop, Refused, TakesWords, MayHappen, MakesChoice, Chooses, Leaves, Unless, ThenProcess, Stage}
+use Rattle.hn_lab.proofs.Names.{TellsLines}
+use Rattle.hn_play.proofs.RunStops.{then_on}
+use Rattle.hn_play.proofs.FirstWords.{taken}
 
 takes : (words : List ℕ) (p q : Stage) → Took (Some p.words) words (Some q.words) → q ≡ record p { words = q.words } → TakesWords words p q
 takes words p q took same =

@@ -1,18 +1,20 @@
 -- Where the wire ends a play, all could as well have been cut right before the copy that failed.
 use Rattle.hn_base.proofs.Names.{◌≡◌, ◌∙◌, ◌⊎◌, ◌<◌, inl, inr, ℕ, zero, suc, Bool, true, false, List, [], ◌∷◌, ◌++◌, Option, None, Some, refl, sym, ap, subst}
-use Rattle.hn_lab.proofs.Names.{Name, IoFault, Note, State, IsChoice, Decides, Line, Datagram, Sends, MailCopy, WEvent, Carried, Same, Lost, Other, Refused, WireFailed, Cut, Breaks, MayHappen}
-use Rattle.hn_lab.proofs.Names.{MakesChoice, Chooses, chosen_event, decided_event, EventNotes, EventEnds, Replaces, ComesTo, IsBroken, DeliveryEnds, injection_for, TreatmentEnds, CopyEnds, HasWaiting}
-use Rattle.hn_lab.proofs.Names.{Flow, Ticks, Passes, Round, Runs, drawn, is_lost, IsKnownRoute, ResultsAreUnique, Noted, Delivered, Sets, OtherEnds, Follows, EndsAs, EndsBy, receiver, injection}
+use Rattle.hn_lab.proofs.Names.{Name, IoFault, Note, State, IsChoice, Decides, Line, Datagram, Sends, MailCopy, WEvent, Carried, Same, Lost, Other, Refused, WireFailed, Cut, MayHappen}
+use Rattle.hn_lab.proofs.Names.{MakesChoice, Chooses, chosen_event, decided_event, EventNotes, EventEnds, Replaces, ComesTo, DeliveryEnds, injection_for, TreatmentEnds, CopyEnds, HasWaiting}
+use Rattle.hn_lab.proofs.Names.{Flow, Ticks, Passes, Round, Runs, drawn, is_lost, IsKnownRoute, ResultsAreUnique, Noted, Delivered, Sets, OtherEnds, Follows, EndsAs, EndsBy, receiver}
+use Rattle.hn_lab.proofs.Names.{injection}
 use Rattle.hn_lab.proofs.Names.{event_of, report_of, LinesDone, Process, Nothing, Unless, ThenProcess, EachProcess, Times, Until, unless_report, IsReport, Report, MayTurn, TurnEnds, Turns}
 use Rattle.hn_lab.proofs.Names.{TickEnds, Solicits, Stage, Route, Mail, Ports, Exchanges, TellsLines, TellsSome, Reports, note_lines, ula_line}
 use Rattle.hn_script.specs.declared.line.Line.TheVariants as line
 use Rattle.hn_world.specs.declared.event.WEvent.TheVariants as event
 use Rattle.hn_lab.specs.Breaking.{CopyFails, WireFailsAtACopy}
-use Rattle.hn_lab.specs.Carrying.{sent_from}
+use Rattle.hn_play.specs.Carrying.{sent_from, Breaks}
 use Rattle.hn_lab.proofs.LawAlike.{KeepsTold, apart}
 use Rattle.hn_lab.proofs.LawCarry.{tells_sent}
 use Rattle.hn_lab.proofs.LawEvents.{drawn_stays, noting_delivery, sole_copy, sole_ticks, sole_passes, sole_round}
 use Rattle.hn_lab.proofs.LawLines.{sole_line}
+use Rattle.hn_play.specs.Delivery.{IsBroken}
 
 -- ---- processes that no wire ends
 

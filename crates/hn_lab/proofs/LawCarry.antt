@@ -2,7 +2,7 @@
 use Rattle.hn_base.proofs.Names.{◌≡◌, ◌∙◌, ◌+◌, ℕ, List, [], ◌∷◌, ◌++◌, Option, None, Some, refl, sym, ap, subst, slice_get, remove, same_Some, none-some}
 use Rattle.hn_lab.proofs.Names.{Datagram, Sends, Carried, Same, Lost, Other, Carries, IsKnownRoute, Route, Mail, Ports}
 use Rattle.hn_wire.specs.Wires.{Arrived, TakesAt, TakesOf, TakesFirst}
-use Rattle.hn_lab.specs.Carrying.{IsCarried, CarriesOver}
+use Rattle.hn_play.specs.Carrying.{IsCarried, CarriesOver}
 
 -- ---- what is taken
 

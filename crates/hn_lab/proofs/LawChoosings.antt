@@ -1,6 +1,7 @@
 -- What a router chooses for itself ends in one way.
 use Rattle.hn_base.proofs.Names.{◌≡◌, ◌∙◌, ℕ, List, Option, None, Some, sym, ap, subst, same_Some, Begins}
-use Rattle.hn_lab.proofs.Names.{Name, State, WEvent, Member, StepIsUnique, unless_runs, Stop, TakesWords, MayHappen, MakesChoice, Chooses, IsKnownRoute, Unless, ThenProcess, Stage, TellsLines}
+use Rattle.hn_lab.proofs.Names.{Name, State, WEvent, Member, StepIsUnique, unless_runs, Stop, TakesWords, MayHappen, MakesChoice, Chooses, IsKnownRoute, Unless, ThenProcess, Stage}
+use Rattle.hn_lab.proofs.Names.{TellsLines}
 use Rattle.hn_lab.proofs.LawAlike.{Grows, grows_from, Agree, IsSole, sole_at, sole_nothing, sole_unless, sole_then}
 use Rattle.hn_lab.proofs.LawEvents.{sole_event}
 use Rattle.hn_lab.proofs.LawTells.{sole_tells}

@@ -1,13 +1,14 @@
 -- An event, a delivery, a flow and a run end in one way.
 use Rattle.hn_base.proofs.Names.{◌≡◌, ◌∙◌, ◌<◌, inl, inr, ℕ, suc, Bool, true, false, List, Option, None, Some, refl, sym, ap, subst, slice_get, arith, ◌||◌, ◌==◌, if◌then◌else◌, same_Some}
-use Rattle.hn_lab.proofs.Names.{Name, RouterHasOneAdvert, Note, MailCopy, WEvent, is_away, running_names, refusal, StepIsUnique, Carried, Same, Lost, Other, Stop, Refused, WireFailed, Cut, Carries}
-use Rattle.hn_lab.proofs.Names.{Happens, EventNotes, EventEnds, injection_for, Replaces, ComesTo, Conveys, DeliveryEnds, TreatmentEnds, CopyEnds, HasWaiting, Flow, Ticks, Passes, Round, Runs, drawn}
+use Rattle.hn_lab.proofs.Names.{Name, RouterHasOneAdvert, Note, MailCopy, WEvent, is_away, running_names, refusal, StepIsUnique, Carried, Same, Lost, Other, Stop, Refused, WireFailed, Cut}
+use Rattle.hn_lab.proofs.Names.{Carries}
+use Rattle.hn_lab.proofs.Names.{Happens, EventNotes, EventEnds, injection_for, Replaces, ComesTo, DeliveryEnds, TreatmentEnds, CopyEnds, HasWaiting, Flow, Ticks, Passes, Round, Runs, drawn}
 use Rattle.hn_lab.proofs.Names.{is_lost, IsKnownRoute, AdvertIsUnique, Unless, ThenProcess, EachProcess, Until, Turns, TickEnds, Stage, Route}
 use Rattle.std.specs.Prelude.{◌+◌, min}
 use Rattle.hn_world.specs.declared.event.WEvent.TheVariants as event
-use Rattle.hn_lab.specs.Delivery.{IsConveyed}
-use Rattle.hn_lab.proofs.LawAlike.{Grows, grows_none, grows_from, Agree, AreOne, FirstIsShort, SecondIsShort, IsCutShort, apart, IsSole, IsSoleNoting, sole_notes, sole_at, noting_at, LeavesTheText}
-use Rattle.hn_lab.proofs.LawAlike.{alike_still, grows_still, sole_unless, sole_then, sole_each, then_noting}
+use Rattle.hn_play.specs.Delivery.{IsConveyed, Conveys}
+use Rattle.hn_lab.proofs.LawAlike.{Grows, grows_none, grows_from, Agree, AreOne, FirstIsShort, SecondIsShort, IsCutShort, apart, IsSole, IsSoleNoting, sole_notes, sole_at, noting_at}
+use Rattle.hn_lab.proofs.LawAlike.{LeavesTheText, alike_still, grows_still, sole_unless, sole_then, sole_each, then_noting}
 use Rattle.hn_lab.proofs.LawCarry.{one_carriage, still_told}
 use Rattle.hn_lab.proofs.LawSendings.{sole_turns}
 use Rattle.hn_lab.proofs.LawUntil.{sole_until}

@@ -1,8 +1,9 @@
 -- A line of a script ends in one way.
 use Rattle.hn_base.proofs.Names.{◌≡◌, ◌∙◌, ℕ, [], ◌∷◌, Option, None, Some, refl, sym, ap, subst}
-use Rattle.hn_lab.proofs.Names.{IsChoice, Name, Line, Decides, WEvent, StepIsUnique, Report, chosen_event, decided_event, EventNotes, EventEnds, DeliveryEnds, IsKnownRoute, ResultsAreUnique, Noted}
-use Rattle.hn_lab.proofs.Names.{Delivered, Sets, OtherEnds, Follows, EndsAs, EndsBy, LineEnds, event_of, report_of, receiver, injection, seeded, Unless, ThenProcess, unless_elects, Solicits, starting}
-use Rattle.hn_lab.proofs.Names.{ended_sending, ending_all, Stage, TellsLines, note_lines, ula_line}
+use Rattle.hn_lab.proofs.Names.{IsChoice, Name, Line, Decides, WEvent, StepIsUnique, Report, chosen_event, decided_event, EventNotes, EventEnds, DeliveryEnds, IsKnownRoute, ResultsAreUnique}
+use Rattle.hn_lab.proofs.Names.{Noted}
+use Rattle.hn_lab.proofs.Names.{Delivered, Sets, OtherEnds, Follows, EndsAs, EndsBy, LineEnds, event_of, report_of, receiver, injection, seeded, Unless, ThenProcess, unless_elects, Solicits}
+use Rattle.hn_lab.proofs.Names.{starting, ended_sending, ending_all, Stage, TellsLines, note_lines, ula_line}
 use Rattle.hn_script.specs.declared.line.Line.TheVariants as line
 use Rattle.hn_world.specs.declared.event.WEvent.TheVariants as event
 use Rattle.hn_lab.proofs.LawAlike.{grows_none, AreOne, IsSole, sole_at, sole_nothing, sole_unless, sole_then, noting_then}

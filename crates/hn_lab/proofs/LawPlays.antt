@@ -1,10 +1,10 @@
 -- Lines have at most one play, and what of it was cut short has a front of its text.
 use Rattle.hn_base.proofs.Names.{◌≡◌, ◌∙◌, ◌⊎◌, inl, inr, ℕ, List, [], ◌∷◌, ◌++◌, length, Option, None, Some, refl, sym, ap, subst, ⊤}
-use Rattle.hn_lab.proofs.Names.{append-nil, IoFault, Failed, Line, End, Stop, Refused, WireFailed, Cut, IsKnownRoute, IsUnbroken, ResultsAreUnique, CutTextsAreFronts, LineEnds, LineSaid, LinesDone, StopsAt}
-use Rattle.hn_lab.proofs.Names.{IsPlay, IsCut, IsCutPlay, Process, Nothing, ThenProcess, refused_line, Stage, TellsLines, Told}
+use Rattle.hn_lab.proofs.Names.{append-nil, IoFault, Failed, Line, End, Stop, Refused, WireFailed, Cut, IsKnownRoute, IsUnbroken, ResultsAreUnique, CutTextsAreFronts, LineEnds, LineSaid}
+use Rattle.hn_lab.proofs.Names.{LinesDone, StopsAt, IsPlay, IsCut, IsCutPlay, Process, Nothing, ThenProcess, refused_line, Stage, TellsLines, Told}
 use Rattle.std.proofs.lemmas.List.{same_from_push}
 use Rattle.hn_base.proofs.FrontOfList.{same_parts}
-use Rattle.hn_lab.specs.declared.end.End.TheVariants as end
+use Rattle.hn_play.specs.declared.end.End.TheVariants as end
 use Rattle.hn_lab.proofs.LawAlike.{Grows, grows_none, grows_on, IsCutShort, Agree, AreOne, FirstIsShort, SecondIsShort, turned, both_done, apart, IsSole, sole_nothing, sole_then}
 use Rattle.hn_lab.proofs.LawLines.{sole_line}
 use Rattle.hn_lab.proofs.LawTells.{tells_agree, grows_tells}

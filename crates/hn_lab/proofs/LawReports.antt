@@ -1,16 +1,17 @@
 -- A report tells one thing.
 use Rattle.hn_base.proofs.Names.{◌≡◌, ◌∙◌, ◌⊎◌, inl, inr, ℕ, Bool, true, false, List, [], ◌∷◌, refl, sym, ap, subst, MatchOption, decimal, length-filter, same_Some, name_text, PlainPrefix}
-use Rattle.hn_lab.proofs.Names.{◌↔◌, IsTrue, Contains, filter, codes, Contains-head, Contains-tail, EpId, NodeId, Letter, Name, seen_by, leaves_of, IsOwnOf, Member, Parts, About, Report, IsAddressed}
-use Rattle.hn_lab.proofs.Names.{IsAddressedLine, IsAdvertLine, advert_line, IsAudited, IsAuditLine, audit_line, ResultsAreUnique, AreUsedLines, used_lines, IsElectLine, elect_line, Tells, Compares}
-use Rattle.hn_lab.proofs.Names.{mail_report, unless_report, IsAbout, IsReport, ReportEnds, compare_line, show_line, hash_line, Stage, Reports, IsUlaCount, IsUlasTold, IsUlasLine}
-use Rattle.std.specs.Prelude.{◌++◌, cond, count_by, length}
+use Rattle.hn_lab.proofs.Names.{◌↔◌, IsTrue, Contains, codes, Contains-head, Contains-tail, EpId, NodeId, Letter, Name, seen_by, IsOwnOf, Member, Parts, About, Report, IsAddressed}
+use Rattle.hn_lab.proofs.Names.{IsAddressedLine, IsAdvertLine, advert_line, IsAudited, IsAuditLine, audit_line, ResultsAreUnique, AreUsedLines, used_lines, IsElectLine, elect_line, Tells}
+use Rattle.hn_lab.proofs.Names.{Compares, mail_report, unless_report, IsAbout, IsReport, ReportEnds, compare_line, show_line, hash_line, Stage, Reports, IsUlaCount, IsUlasTold, IsUlasLine}
+use Rattle.std.specs.Prelude.{◌++◌, cond, count_by, length, filter}
 use Rattle.hn_link.specs.Election.{IsElected, HasNoCandidate}
 use Rattle.hn_world.specs.Laws.{AgreementIsUnique}
 use Rattle.hn_lab.specs.declared.report.About.TheVariants as about
 use Rattle.hn_lab.specs.declared.report.Report.TheVariants as report
-use Rattle.hn_lab.specs.Reports.{IsCompareLine}
+use Rattle.hn_report.specs.RouterReports.{IsCompareLine}
 use Rattle.hn_lab.proofs.LawAlike.{IsSole, sole_at}
 use Rattle.hn_lab.proofs.LawTells.{IsOneReport, one_line, sole_reports}
+use Rattle.hn_rules.specs.Nodes.{leaves_of}
 
 -- what is told in so many words
 one_same : {A : Type 0} (told : A) → IsOneReport (λ (l : A). l ≡ told)

@@ -1,11 +1,13 @@
 -- Router Advertisements are sent in one way.
 use Rattle.hn_base.proofs.Names.{◌≡◌, ◌∙◌, ◌⊎◌, inl, inr, ℕ, Bool, true, false, List, Option, None, Some, refl, sym, ap, subst, if◌then◌else◌, same_Some, none-some}
-use Rattle.hn_lab.proofs.Names.{position, IsAdvert, advert_bytes, Advert, EpId, Name, PlainSender, solicited, is_due, IsAdvertAt, RouterHasOneAdvert, State, Member, Stop, Sending, Shape, IsKnownRoute}
-use Rattle.hn_lab.proofs.Names.{AdvertIsUnique, Nothing, EachProcess, shape_of, sends_at, sender_endpoints, IsSenderAt, ra_line, IsAsked, IsDue, line_if, sending_now, with_this, drawing, IsTurn}
-use Rattle.hn_lab.proofs.Names.{HasNoTurn, MayTurn, TurnEnds, Turns, IsSolicited, Solicits, Stage, TellsLines}
+use Rattle.hn_lab.proofs.Names.{position, IsAdvert, advert_bytes, Advert, EpId, Name, PlainSender, solicited, is_due, RouterHasOneAdvert, State, Member, Stop, Sending, Shape, IsKnownRoute}
+use Rattle.hn_lab.proofs.Names.{AdvertIsUnique, Nothing, EachProcess, shape_of, sends_at, sender_endpoints, IsSenderAt, ra_line, IsAsked, line_if, sending_now, with_this, drawing, IsTurn}
+use Rattle.hn_lab.proofs.Names.{MayTurn, TurnEnds, Turns, IsSolicited, Solicits, Stage, TellsLines}
 use Rattle.std.specs.Prelude.{slice_get}
 use Rattle.hn_lab.proofs.LawAlike.{Grows, grows_none, grows_from, Agree, AreOne, IsSole, sole_at, sole_nothing, sole_then, sole_each}
 use Rattle.hn_lab.proofs.LawTells.{sole_tells}
+use Rattle.hn_play.specs.Sending.{IsDue, HasNoTurn}
+use Rattle.hn_router.specs.Advertising.{IsAdvertAt}
 
 -- ---- what decides a turn is one thing
 

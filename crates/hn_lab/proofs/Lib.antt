@@ -1,23 +1,9 @@
 mod Names
-mod RunStops
-mod RunAnswers
-mod RunStarved
-mod RunEvents
-mod RunCopies
-mod RunTimes
-mod RunDeliveries
-mod RunWrites
-mod RunEach
-mod RunTurns
 mod Choosings
 mod RunSyncs
-mod TextLines
-mod TextReports
 mod LineEnds
-mod Sendings
 mod PlayLines
 mod PlayScripts
-mod PrefixTexts
 mod LawAlike
 mod LawBreaks
 mod LawCarry
@@ -32,7 +18,6 @@ mod LawTells
 mod LawUntil
 mod Sets
 mod AddressSets
-mod AddressTexts
 mod UlaCounts
 mod UlaSets
 mod SomeEnds
@@ -47,3 +32,5 @@ mod OpenPlays
 mod OpenTranscripts
 mod RunsInTurns
 mod CalmLines
+mod ReportLines
+mod Solicitings

@@ -1,10 +1,11 @@
 -- How a report ends, and what is done in the world.
 use Rattle.hn_base.proofs.Names.{◌≡◌, ◌≢◌, ℕ, List, [], Option, None, Some, Result, Ok, Err, inl, refl, sym, subst, IfOk}
-use Rattle.hn_lab.proofs.Names.{◌↔◌, IsTrue, NoMemory, Line, WorldFault, Cut, Report, IsAnsweredLeaving, OtherEnds, event_of, report_of, Unless, unless_report, IsReport, ReportEnds, Stage, TellsSome}
+use Rattle.hn_lab.proofs.Names.{◌↔◌, IsTrue, NoMemory, Line, WorldFault, Cut, Report, IsAnsweredLeaving, OtherEnds, event_of, report_of, Unless, unless_report, IsReport, ReportEnds, Stage}
+use Rattle.hn_lab.proofs.Names.{TellsSome}
 use Rattle.hn_script.specs.declared.line.Line.TheVariants as line
 use Rattle.hn_world.specs.declared.event.WorldFault.TheVariants as fault
 use Rattle.hn_lab.specs.Line.{is_act}
-use Rattle.hn_lab.proofs.RunStops.{then_on}
+use Rattle.hn_play.proofs.RunStops.{then_on}
 
 -- what is not refused
 accepted : {A : Type 0} (unless : Option ℕ) (lines : A) → ((code : ℕ) → (Ok lines ≡ Err (fault.Refused code)) ↔ (unless ≡ Some code)) → unless ≡ None

@@ -1,7 +1,7 @@
 -- An open play goes on with a line.
 use Rattle.hn_base.proofs.Names.{◌≡◌, ◌∙◌, ℕ, ◌+◌, ◌<◌, ◌≤◌, List, [], ◌∷◌, ◌++◌, length, take, take_at, Option, None, Some, inl, refl, sym, ap, subst, append_assoc, length-append, arith, true, false}
-use Rattle.hn_lab.proofs.Names.{append-nil, NoMemory, Version, Line, Script, End, Stop, Refused, WireFailed, Cut, Failed, Parts, Gets, Playing, Runs, LineEnds, begun, LinesDone, StopsAt, IsPlay, refused_line, Stage, Mail}
-use Rattle.hn_lab.proofs.Names.{stage_of, telling, Told, told, bytes_of, EndsAt}
+use Rattle.hn_lab.proofs.Names.{append-nil, NoMemory, Version, Line, Script, End, Stop, Refused, WireFailed, Cut, Failed, Parts, Gets, Playing, Runs, LineEnds, begun, LinesDone, StopsAt}
+use Rattle.hn_lab.proofs.Names.{IsPlay, refused_line, Stage, Mail, stage_of, telling, Told, told, bytes_of, EndsAt}
 use Rattle.hn_base.specs.declared.version.Version.TheVariants.{One, Two}
 use Rattle.std.specs.Prelude.{Bool, nat_lt, if◌then◌else◌}
 use Rattle.std.specs.Option.{option_map}
@@ -11,7 +11,7 @@ use Rattle.hn_script.specs.Laws.{DenseBegins, DenseGoesOn}
 use Rattle.hn_script.specs.Line.{of_version}
 use Rattle.hn_script.specs.Script.{IsDenseScript, begun_script, script_text, with_line}
 use Rattle.hn_script.specs.declared.line.Line.TheVariants as line
-use Rattle.hn_lab.specs.declared.end.End.TheVariants as end
+use Rattle.hn_play.specs.declared.end.End.TheVariants as end
 use Rattle.hn_lab.specs.Course.{IsPlayedSoFar, IsKeptSource}
 use Rattle.hn_lab.specs.Lab.{status_of}
 use Rattle.hn_lab.specs.Laws.{MailDelivers}
@@ -19,7 +19,7 @@ use Rattle.hn_lab.specs.Open.{is_plain, unless_begun}
 use Rattle.hn_lab.specs.OpenTranscript.{IsOfItsTranscript}
 use Rattle.hn_lab.proofs.OpenLines.{line_same}
 use Rattle.hn_lab.proofs.PlayLines.{Reached, so_far_more}
-use Rattle.hn_lab.proofs.RunWrites.{bytes_more, bytes_told}
+use Rattle.hn_play.proofs.RunWrites.{bytes_more, bytes_told}
 
 pub joined_done : (ls more : List (ℕ × Line)) (p m a : Stage) → LinesDone ls p m → LinesDone more m a → LinesDone (ls ++ more) p a
 joined_done [] more p m a is done = subst (λ (x : Stage). LinesDone more x a) is done

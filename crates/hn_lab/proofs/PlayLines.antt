@@ -1,12 +1,13 @@
 -- The lines of a script, one after another, and what is written of their text.
 use Rattle.hn_base.proofs.Names.{◌≡◌, ◌∙◌, ℕ, List, [], ◌∷◌, ◌++◌, Option, None, Some, inl, inr, refl, sym, ap, subst, append_assoc, Appends}
-use Rattle.hn_lab.proofs.Names.{append-nil, IoFault, Failed, NoMemory, Line, Stop, Refused, WireFailed, Cut, LineEnds, AppendsPart, AppendsFront, IsCutText, LineSaid, LinesDone, StopsAt, IsPlay}
+use Rattle.hn_lab.proofs.Names.{append-nil, IoFault, Failed, NoMemory, Line, Stop, Refused, WireFailed, Cut, LineEnds, AppendsFront, IsCutText, LineSaid, LinesDone, StopsAt, IsPlay}
 use Rattle.hn_lab.proofs.Names.{IsCut, IsCutPlay, refused_line, Stage, telling, Told, told, bytes_of, Gets, EndsAt}
-use Rattle.hn_lab.specs.declared.end.End.TheVariants as end
-use Rattle.hn_lab.specs.Carrying.{IsLeftAt}
-use Rattle.hn_lab.specs.Writing.{IsCutThere}
-use Rattle.hn_lab.proofs.RunWrites.{bytes_more, bytes_told, gets_more, last_of}
+use Rattle.hn_play.specs.declared.end.End.TheVariants as end
+use Rattle.hn_play.specs.Carrying.{IsLeftAt}
+use Rattle.hn_play.specs.Writing.{IsCutThere}
+use Rattle.hn_play.proofs.RunWrites.{bytes_more, bytes_told, gets_more, last_of}
 use Rattle.std.proofs.KnownBytes.{Appends-trans}
+use Rattle.hn_streams.specs.Output.{AppendsPart}
 
 -- ---- the lines that are done
 

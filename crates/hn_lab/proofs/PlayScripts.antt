@@ -6,8 +6,8 @@ use Rattle.hn_lab.proofs.Names.{StatusOfScript, AtMostOnePlay, AppendsFront, IsC
 use Rattle.hn_base.proofs.WholeSources.{of_source}
 use Rattle.hn_script.specs.Script.{IsFirstFault}
 use Rattle.hn_script.specs.declared.fault.ScriptFault.{ScriptFault}
-use Rattle.hn_lab.specs.declared.end.End.TheVariants.{Refused, WireFailed}
-use Rattle.hn_lab.specs.Carrying.{IsLeftAt}
+use Rattle.hn_play.specs.declared.end.End.TheVariants.{Refused, WireFailed}
+use Rattle.hn_play.specs.Carrying.{IsLeftAt}
 use Rattle.hn_lab.specs.Lab.{play_status}
 
 -- ---- the status of a play

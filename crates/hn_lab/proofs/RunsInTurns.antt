@@ -2,8 +2,8 @@
 use Rattle.hn_base.proofs.Names.{◌≡◌, ◌≢◌, ◌∙◌, ◌⊎◌, ◌+◌, ◌-◌, ◌<◌, ◌≤◌, ◌%◌, ℕ, zero, suc, min, Bool, true, false, cond, List, [], ◌∷◌, ◌++◌, filter, map, length, position, Option, Some, None}
 use Rattle.hn_base.proofs.Names.{Contains, get_or, slice_get, slice_set, nat_lt, inl, inr, refl, sym, ap, subst, arith, ◌||◌, ◌==◌, if◌then◌else◌, position_or_len, bytes_eq, cases_Bool, cases_lt, ltb-true}
 use Rattle.hn_base.proofs.Names.{position-Some, position_or_len_is, same_Some, slice_get_within, get_or_from_slice_get, bytes_eq-Decides, name_text}
-use Rattle.hn_lab.proofs.Names.{Contains-cases, nothing_in, in_filter, contains_at, EpId, Name, Version, Note, MailCopy, Traced, WEvent, Member, Parts, WorldHasItsTrace, WorldHasItsVersion, is_named}
-use Rattle.hn_lab.proofs.Names.{is_away, running_names, Goes, IsReplayed, Replays, Step, first_waiting, PlainSender, Sending, Shape, shape_of, Happens, CopyEnds, HasWaiting, Round, TreatmentEnds}
+use Rattle.hn_lab.proofs.Names.{Contains-cases, nothing_in, in_filter, EpId, Name, Version, Note, MailCopy, Traced, WEvent, Member, Parts, WorldHasItsTrace, WorldHasItsVersion, is_named}
+use Rattle.hn_lab.proofs.Names.{is_away, running_names, Goes, IsReplayed, Step, first_waiting, PlainSender, Sending, Shape, shape_of, Happens, CopyEnds, HasWaiting, Round, TreatmentEnds}
 use Rattle.hn_lab.proofs.Names.{EachProcess, Process, Times, IsTurn, MayTurn, TickEnds, TurnEnds, sending_now, with_this, Mail, Stage}
 use Rattle.hn_base.proofs.AscendingLists.{Contains-map}
 use Rattle.hn_base.proofs.PassingElements.{none_passes}
@@ -15,6 +15,8 @@ use Rattle.hn_world.specs.Names.{router_place, NamesDiffer}
 use Rattle.hn_lab.specs.Laws.{MailDelivers}
 use Rattle.hn_lab.specs.Resting.{IsOnTheWay, IsSteadyStep, IsSteadyWay, LastingRunKeepsCalm, RunBringsCalm, RunKeepsCalm}
 use Rattle.hn_lab.proofs.SomeEvents.{goes_more, replays_step}
+use Rattle.hn_base.proofs.PartsAtPlaces.{contains_at}
+use Rattle.hn_world.specs.Replay.{Replays}
 
 -- the laws on which it rests
 pub record RunLaws : Type 0 where

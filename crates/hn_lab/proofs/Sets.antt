@@ -1,8 +1,8 @@
 -- The set of a router in a world: who is in it.
 use Rattle.hn_base.proofs.Names.{◌≡◌, ◌≤◌, ◌<◌, ◌+◌, ℕ, true, false, Bool, IsTrue, Contains, List, length, take, get_or, Option, Some, refl, subst, sym, ◌∙◌, list_any, option_map_or, and_parts}
 use Rattle.hn_base.proofs.Names.{eqb-true, eq-eqb, take_all, All-contains, All-more, Contains-get_or}
-use Rattle.hn_lab.proofs.Names.{◌==◌, All, ◌↔◌, all_of, found_passes, same_node, NodeId, ViewIsNetwork, EntriesAreAsKnown, State, IsRouter, Member, Parts, is_named, member_named, WorldIsSound}
-use Rattle.hn_lab.proofs.Names.{IsReplayed, IsSoundMember, SettledSeeEachOther, IsRunning, IsReached, is_in_set, IsSettledByRules}
+use Rattle.hn_lab.proofs.Names.{◌==◌, All, ◌↔◌, all_of, found_passes, same_node, NodeId, ViewIsNetwork, EntriesAreAsKnown, State, IsRouter, Member, Parts, is_named, member_named}
+use Rattle.hn_lab.proofs.Names.{WorldIsSound, IsReplayed, IsSoundMember, SettledSeeEachOther, IsRunning, IsReached, is_in_set, IsSettledByRules}
 use Rattle.std.proofs.Common.{◌&&◌}
 use Rattle.std.specs.List.{filter}
 use Rattle.hn_base.proofs.AscendingLists.{Contains-from_map}

@@ -1,8 +1,9 @@
 -- Choices are made, and exchanges go on to an end: it cannot be that they do not.
 use Rattle.hn_base.proofs.Names.{◌≡◌, ◌+◌, ◌<◌, ◌^◌, ◌∙◌, ℕ, List, length, get_or, Option, None, Some, refl, sym, subst, arith, All, same_Some, slice_get-get_or, Some!, name_text, Begins}
-use Rattle.hn_lab.proofs.Names.{IsChoice, Name, some_there, all_of, some_then, IsRouter, State, unless_exchange, Decides, IsOfBytesAt, member_named, unless_running, unless_runs, routed, FitsAt}
-use Rattle.hn_lab.proofs.Names.{IsWorldEventInRange, WEvent, Member, Parts, Chooses, MakesChoice, MayHappen, chosen_event, decided_event, ComesToAnEnd, GoesOn, IsFit, Stage, Exchanges, SyncEnds}
-use Rattle.hn_lab.proofs.Names.{TellsLines, WorldIsSound}
+use Rattle.hn_lab.proofs.Names.{IsChoice, Name, some_there, all_of, some_then, IsRouter, State, unless_exchange, Decides, IsOfBytesAt, member_named, unless_running, unless_runs, routed}
+use Rattle.hn_lab.proofs.Names.{FitsAt}
+use Rattle.hn_lab.proofs.Names.{IsWorldEventInRange, WEvent, Member, Parts, Chooses, MakesChoice, MayHappen, chosen_event, decided_event, ComesToAnEnd, GoesOn, IsFit, Stage, Exchanges}
+use Rattle.hn_lab.proofs.Names.{SyncEnds, TellsLines, WorldIsSound}
 use Rattle.hn_addr.specs.Laws.{ChoiceExists, ChosenAddressesFit, HasAChoice}
 use Rattle.hn_addr.specs.declared.choice.Choice.{Choice}
 use Rattle.hn_addr.specs.declared.choice.Choice.TheVariants as choice
@@ -12,7 +13,7 @@ use Rattle.hn_ula.specs.Laws.{AnnouncedIsPrefix, DecisionExists, HasADecision}
 use Rattle.hn_ula.specs.declared.decision.Ula.{Ula}
 use Rattle.hn_ula.specs.declared.decision.Ula.TheVariants as ula
 use Rattle.hn_world.specs.Replay.{words_of_trace}
-use Rattle.hn_lab.proofs.Choosings.{taken}
+use Rattle.hn_play.proofs.FirstWords.{taken}
 use Rattle.hn_lab.proofs.SomeEnds.{ends_after, ends_nothing, ends_tells, ends_then}
 use Rattle.hn_lab.proofs.SomeEvents.{EventLaws, ends_event_whatever, goes_on, rest_of, weaker}
 use Rattle.hn_lab.proofs.SomeTurns.{router_named}

@@ -1,7 +1,7 @@
 -- Processes end, and so do those that are made of them: it cannot be that they do not.
 use Rattle.hn_base.proofs.Names.{◌≡◌, ◌≤◌, ◌+◌, ◌-◌, ℕ, zero, suc, List, [], ◌∷◌, Contains, length, Option, None, Some, refl, sym, subst, inl, inr, arith, Some! }
-use Rattle.hn_lab.proofs.Names.{Contains-head, Contains-tail, some_by, some_then, IsFit, IsOn, GoesOn, ComesToAnEnd, stop_by, Process, Nothing, Unless, ThenProcess, EachProcess, Times, Until, Stage}
-use Rattle.hn_lab.proofs.Names.{TellsLines, TellsSome, Reports}
+use Rattle.hn_lab.proofs.Names.{Contains-head, Contains-tail, some_by, some_then, IsFit, IsOn, GoesOn, ComesToAnEnd, stop_by, Process, Nothing, Unless, ThenProcess, EachProcess, Times}
+use Rattle.hn_lab.proofs.Names.{Until, Stage, TellsLines, TellsSome, Reports}
 
 -- the same stage, or one with this world, is no further
 pub on_same : (p q : Stage) → IsFit q → q.world ≡ p.world → IsOn 0 p q

@@ -1,17 +1,18 @@
 -- Events end, and deliveries by mail.
 use Rattle.hn_base.proofs.Names.{◌≡◌, ◌∙◌, ◌+◌, ◌<◌, ◌≤◌, ℕ, suc, Bool, true, false, cond, List, [], ◌∷◌, ◌++◌, length, length-append, slice_get, Option, None, Some, refl, sym, ap, subst, inl, inr}
 use Rattle.hn_base.proofs.Names.{arith, ◌==◌, ◌||◌, same_Some, Some!, Begins, Took}
-use Rattle.hn_lab.proofs.Names.{Version, some_then, Note, MailCopy, Traced, WEvent, Parts, IsOfBytesAt, WorldHasItsTrace, WorldHasItsVersion, is_away, refusal, Goes, IsReplayed, routed, FitsAt}
-use Rattle.hn_lab.proofs.Names.{IsWorldEventInRange, Step, first_waiting, Same, Carries, EventNotes, EventEnds, DeliveryEnds, CopyEnds, Flow, HasWaiting, TreatmentEnds, drawn, is_lost, ComesToAnEnd}
-use Rattle.hn_lab.proofs.Names.{GoesOn, IsFit, IsOn, stop_by, Process, Stage, Route, Mail}
+use Rattle.hn_lab.proofs.Names.{Version, some_then, Note, MailCopy, Traced, WEvent, Parts, IsOfBytesAt, WorldHasItsTrace, WorldHasItsVersion, is_away, refusal, Goes, IsReplayed, routed}
+use Rattle.hn_lab.proofs.Names.{FitsAt}
+use Rattle.hn_lab.proofs.Names.{IsWorldEventInRange, Step, first_waiting, Same, Carries, EventNotes, EventEnds, DeliveryEnds, CopyEnds, Flow, HasWaiting, TreatmentEnds, drawn, is_lost}
+use Rattle.hn_lab.proofs.Names.{ComesToAnEnd, GoesOn, IsFit, IsOn, stop_by, Process, Stage, Route, Mail}
 use Rattle.hn_base.proofs.FirstWords.{begins_both}
 use Rattle.hn_world.specs.declared.event.WEvent.TheVariants as event
 use Rattle.hn_world.specs.Existing.{HasAStep, Outcome, ReplayedStepExists}
 use Rattle.hn_world.specs.Laws.{EachEventIsEntered}
 use Rattle.hn_world.specs.Replay.{empty_world, Replays}
-use Rattle.hn_lab.proofs.RunCopies.{some_copy}
-use Rattle.hn_lab.proofs.RunDeliveries.{delivered_copy}
-use Rattle.hn_lab.proofs.RunEvents.{one_more}
+use Rattle.hn_play.proofs.RunCopies.{some_copy}
+use Rattle.hn_play.proofs.RunDeliveries.{delivered_copy}
+use Rattle.hn_play.proofs.RunEvents.{one_more}
 use Rattle.hn_lab.proofs.SomeEnds.{ends_until}
 
 -- the laws on which it rests

@@ -1,8 +1,11 @@
 -- By mail each line ends, and lines have a play: it cannot be that they have none.
 use Rattle.hn_base.proofs.Names.{◌≡◌, ◌-◌, ◌*◌, ◌/◌, ◌%◌, ◌<◌, ◌^◌, ℕ, List, [], ◌∷◌, Option, None, Some, refl, ap, inl, arith, All, div_below, pow_pos, IsByte}
-use Rattle.hn_lab.proofs.Names.{EpId, Name, Version, some_then, Note, IsLimited, Line, WEvent, End, Sending, DeliveryEnds, EventEnds, EventNotes, ComesToAnEnd, GoesOn, IsFit, IsOn, ScriptHasAPlay}
-use Rattle.hn_lab.proofs.Names.{stop_by, IsUnbroken, EndsAs, EndsBy, Follows, LineEnds, Noted, OtherEnds, Sets, event_of, injection, receiver, report_of, seeded, begun, IsPlay, Process, ThenProcess}
-use Rattle.hn_lab.proofs.Names.{IsReport, unless_elects, unless_report, refused_line, Report, Solicits, ended_sending, ending_all, starting, Stage, Mail, telling, TellsLines, note_lines, ula_line}
+use Rattle.hn_lab.proofs.Names.{EpId, Name, Version, some_then, Note, IsLimited, Line, WEvent, End, Sending, DeliveryEnds, EventEnds, EventNotes, ComesToAnEnd, GoesOn, IsFit, IsOn}
+use Rattle.hn_lab.proofs.Names.{ScriptHasAPlay}
+use Rattle.hn_lab.proofs.Names.{stop_by, IsUnbroken, EndsAs, EndsBy, Follows, LineEnds, Noted, OtherEnds, Sets, event_of, injection, receiver, report_of, seeded, begun, IsPlay, Process}
+use Rattle.hn_lab.proofs.Names.{ThenProcess}
+use Rattle.hn_lab.proofs.Names.{IsReport, unless_elects, unless_report, refused_line, Report, Solicits, ended_sending, ending_all, starting, Stage, Mail, telling, TellsLines, note_lines}
+use Rattle.hn_lab.proofs.Names.{ula_line}
 use Rattle.std.specs.Prelude.{bit_or, bit_xor}
 use Rattle.std.proofs.lemmas.Nat.{or_of_32}
 use Rattle.rand_pcg.specs.Lcg.{Lcg, state_after}
@@ -15,7 +18,7 @@ use Rattle.hn_script.specs.declared.line.How.TheVariants.{Uni, Multi, Far}
 use Rattle.hn_script.specs.declared.line.Line.TheVariants as line
 use Rattle.hn_world.specs.Replay.{Replays}
 use Rattle.hn_world.specs.declared.event.WEvent.TheVariants as event
-use Rattle.hn_lab.specs.declared.end.End.TheVariants as end
+use Rattle.hn_play.specs.declared.end.End.TheVariants as end
 use Rattle.hn_lab.specs.Existing.{HasAPlay, PlayExists}
 use Rattle.hn_lab.proofs.SomeChoices.{ChoiceLaws, EventFits, ends_address, ends_sync, ends_ula}
 use Rattle.hn_lab.proofs.SomeEnds.{ends_after, ends_nothing, ends_report, ends_then, fit_told}

@@ -1,18 +1,18 @@
 -- What reports tell: it cannot be that there is nothing to tell.
 use Rattle.hn_base.proofs.Names.{◌≡◌, ◌+◌, ℕ, Bool, true, false, not, IsTrue, List, [], ◌∷◌, filter, Option, None, Some, refl, inl, inr, option_or, Some!, name_text}
-use Rattle.hn_lab.proofs.Names.{◌↔◌, codes, StillAddressesStay, advert_bytes, SettledSeeEachOther, IsQuietByRules, IsRunning, is_in_set, IsSettledByRules, EpId, Letter, Name, neither_given, some_there}
-use Rattle.hn_lab.proofs.Names.{found_passes, some_by, some_then, AdvertExists, EntriesAreAsKnown, OwnAddressesAreSaid, OwnVersionIsSaid, ViewIsNetwork, IsRouter, seen_by, WorldIsSound, is_named}
-use Rattle.hn_lab.proofs.Names.{member_named, unless_both_run, unless_known, unless_running, unless_runs, IsReplayed, Member, Parts, AreAddressesStill, IsAddressed, IsAddressedLine, IsAdvertLine}
-use Rattle.hn_lab.proofs.Names.{advert_line, IsAudited, IsAuditLine, audit_line, AreUsedLines, IsElectLine, elect_line, used_lines, Compares, IsAbout, IsReport, Tells, mail_report, unless_report}
-use Rattle.hn_lab.proofs.Names.{compare_line, hash_line, show_line, IsOneLine, ArePrefixesStill, HasGenerated, HaveGenerated, IsUlasLine, IsUlasTold, About, Report}
+use Rattle.hn_lab.proofs.Names.{◌↔◌, codes, StillAddressesStay, advert_bytes, SettledSeeEachOther, IsQuietByRules, IsRunning, is_in_set, IsSettledByRules, EpId, Letter, Name, some_there}
+use Rattle.hn_lab.proofs.Names.{found_passes, some_by, some_then, AdvertExists, EntriesAreAsKnown, OwnAddressesAreSaid, OwnVersionIsSaid, ViewIsNetwork, IsRouter, seen_by, WorldIsSound}
+use Rattle.hn_lab.proofs.Names.{is_named, member_named, unless_running, unless_runs, IsReplayed, Member, Parts, AreAddressesStill, IsAddressed, IsAddressedLine, IsAdvertLine}
+use Rattle.hn_lab.proofs.Names.{advert_line, IsAudited, IsAuditLine, audit_line, AreUsedLines, IsElectLine, elect_line, used_lines, Compares, IsAbout, IsReport, Tells, mail_report}
+use Rattle.hn_lab.proofs.Names.{unless_report, compare_line, hash_line, show_line, IsOneLine, ArePrefixesStill, HasGenerated, HaveGenerated, IsUlasLine, IsUlasTold, About, Report}
 use Rattle.hn_audit.specs.Laws.{SettledAndQuietIsSound}
 use Rattle.hn_base.proofs.SomeExists.{some_is}
 use Rattle.hn_deleg.specs.Laws.{UsableExists}
 use Rattle.hn_router.specs.Laws.{ElectedExists}
 use Rattle.hn_world.specs.Existing.{RoutersAgreeSomehow}
-use Rattle.hn_world.specs.Asked.{code_if, of_router}
-use Rattle.hn_lab.specs.AddressReports.{addresses_lines}
-use Rattle.hn_lab.specs.PrefixReports.{prefixes_lines}
+use Rattle.hn_world.specs.Asked.{code_if, of_router, unless_both_run, unless_known}
+use Rattle.hn_report.specs.AddressLines.{addresses_lines}
+use Rattle.hn_report.specs.PrefixReports.{prefixes_lines}
 use Rattle.hn_lab.specs.Report.{unless_about}
 use Rattle.hn_lab.specs.declared.report.About.TheVariants as about
 use Rattle.hn_lab.specs.declared.report.Report.TheVariants as report
@@ -20,6 +20,7 @@ use Rattle.hn_lab.proofs.AddressSets.{are_alone}
 use Rattle.hn_lab.proofs.Sets.{IsKnown}
 use Rattle.hn_lab.proofs.SomeTurns.{router_named}
 use Rattle.hn_lab.proofs.UlaSets.{ula_count}
+use Rattle.hn_base.proofs.DecidingTests.{neither_given}
 
 -- the laws on which it rests
 pub record ReportLaws : Type 0 where

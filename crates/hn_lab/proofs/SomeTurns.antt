@@ -1,14 +1,15 @@
 -- Router Advertisements are sent, routers tick, and time passes: it cannot be that this does not end.
 use Rattle.hn_base.proofs.Names.{◌≡◌, ◌+◌, ◌<◌, ◌≤◌, ◌^◌, ℕ, suc, min, Bool, true, false, cond, List, [], ◌∷◌, get_or, Option, None, Some, refl, inl, inr, arith, cases_lt, All-contains, position-Some}
 use Rattle.hn_base.proofs.Names.{slice_get-get_or, Some!, name_text}
-use Rattle.hn_lab.proofs.Names.{position, IsAdvert, advert_bytes, Advert, EpId, Name, found_passes, some_by, some_then, PlainSender, solicited, is_due, draws, sent, AdvertExists, IsRouter}
+use Rattle.hn_lab.proofs.Names.{position, IsAdvert, advert_bytes, Advert, EpId, Name, found_passes, some_by, some_then, PlainSender, solicited, is_due, AdvertExists, IsRouter}
 use Rattle.hn_lab.proofs.Names.{WorldIsSound, is_named, member_named, running_names, IsReplayed, IsSoundMember, Member, Parts, Sending, Shape, EventEnds, Flow, Passes, Round, Runs, Ticks}
-use Rattle.hn_lab.proofs.Names.{ComesToAnEnd, IsFit, IsOn, Nothing, ThenProcess, shape_of, sends_at, sender_endpoints, IsSenderAt, ra_line, IsAsked, line_if, sending_now, with_this, drawing, MayTurn}
-use Rattle.hn_lab.proofs.Names.{TurnEnds, Turns, TickEnds, Solicits, Stage}
+use Rattle.hn_lab.proofs.Names.{ComesToAnEnd, IsFit, IsOn, Nothing, ThenProcess, shape_of, sends_at, sender_endpoints, IsSenderAt, ra_line, IsAsked, line_if, sending_now, with_this, drawing}
+use Rattle.hn_lab.proofs.Names.{MayTurn, TurnEnds, Turns, TickEnds, Solicits, Stage}
 use Rattle.hn_advert.specs.Advert.{IsInRange}
 use Rattle.hn_world.specs.declared.event.WEvent.TheVariants as event
 use Rattle.hn_lab.proofs.SomeEnds.{ends_each, ends_nothing, ends_then, ends_until, fit_told}
 use Rattle.hn_lab.proofs.SomeEvents.{EventLaws, ends_event_whatever, ends_flow, weaker}
+use Rattle.hn_radv.specs.Sender.{draws, sent}
 
 -- bytes that are written for an advertisement are read as that again
 abbrev pub AdvertIsRead : Type 0

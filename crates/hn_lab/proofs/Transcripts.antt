@@ -1,10 +1,10 @@
 -- By mail a script has one transcript, and what is written is a front of it.
 use Rattle.hn_base.proofs.Names.{◌≡◌, ◌≢◌, ◌∙◌, ℕ, List, [], ◌∷◌, ◌++◌, append_assoc, Option, Some, refl, sym, ap, subst, inl, inr, arith, flat_map-append}
-use Rattle.hn_lab.proofs.Names.{append-nil, some_then, Failed, NoMemory, Script, Parts, End, Done, ScriptHasAPlay, IsBrokenPlay, IsWholePlay, Plays, AtMostOnePlay, CutTextsAreFronts, IsUnbroken}
-use Rattle.hn_lab.proofs.Names.{IsCutText, begun, IsPlay, Route, Stage, Mail, Told, bytes_of}
+use Rattle.hn_lab.proofs.Names.{append-nil, some_then, Failed, NoMemory, Script, Parts, End, Done, ScriptHasAPlay, IsBrokenPlay, IsWholePlay, Plays, AtMostOnePlay, CutTextsAreFronts}
+use Rattle.hn_lab.proofs.Names.{IsUnbroken, IsCutText, begun, IsPlay, Route, Stage, Mail, Told, bytes_of}
 use Rattle.hn_script.specs.Laws.{AtMostOneScript, FaultExcludesScript}
 use Rattle.hn_script.specs.Script.{IsScript}
-use Rattle.hn_lab.specs.declared.end.End.TheVariants.{Refused, WireFailed}
+use Rattle.hn_play.specs.declared.end.End.TheVariants.{Refused, WireFailed}
 use Rattle.hn_lab.specs.Lab.{IsStarvedPlay, status_of}
 use Rattle.hn_streams.specs.Output.{IsFrontOf}
 use Rattle.hn_lab.specs.Transcripts.{DoneOrRefused, IsOfTranscript, IsTranscript, IsWrittenOf, LabIsOfTranscript, PlayIsOfTranscript, Transcript, TranscriptExists, TranscriptIsUnique}

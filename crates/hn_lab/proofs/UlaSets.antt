@@ -1,10 +1,10 @@
 -- In the set of a settled router whose routers are still one router at most has a generated prefix.
 use Rattle.hn_base.proofs.Names.{◌≡◌, ◌∙◌, ◌<◌, ◌≤◌, ℕ, Bool, false, IsTrue, List, [], ◌∷◌, Contains, filter, refl, sym, ap, subst, inl, inr, arith, count_by, and_from, cases_Bool, cases_lt, eqb-true}
 use Rattle.hn_base.proofs.Names.{eq-eqb, false≢true, not_from_Decides, All-contains, PlainPrefix}
-use Rattle.hn_lab.proofs.Names.{◌==◌, ◌↔◌, NodeId, nothing_in, Contains-head, Contains-tail, Contains-cases, in_filter, same_node, prefix_decided, HasVersion, ViewIsNetwork, EntriesAreAsKnown}
+use Rattle.hn_lab.proofs.Names.{◌==◌, ◌↔◌, NodeId, nothing_in, Contains-head, Contains-tail, Contains-cases, in_filter, same_node, HasVersion, ViewIsNetwork, EntriesAreAsKnown}
 use Rattle.hn_lab.proofs.Names.{seen_by, IsOwnOf, Member, Parts, IsReached, is_in_set, HasGenerated, HaveGenerated, ArePrefixesStill, IsUlaCount}
 use Rattle.hn_base.proofs.Elements.{from_filter}
-use Rattle.hn_base.proofs.Prefixes.{is_one_prefix}
+use Rattle.hn_base.proofs.Prefixes.{is_one_prefix, prefix_decided}
 use Rattle.hn_data.specs.Delegations.{HasDelegation}
 use Rattle.hn_data.specs.declared.said.Delegation.{Delegation}
 use Rattle.hn_ula.specs.Ula.{IsGenerated, IsForeign, IsLocal}

@@ -1,26 +1,14 @@
 -- The reports on the addresses of routers. docs/FORMATS.md has the table.
-use Rattle.std.specs.Prelude.{◌≡◌, ◌⊎◌, ℕ, List, [], ◌∷◌, ◌++◌, map, length, codes}
-use Rattle.std.specs.Fmt.{decimal}
+use Rattle.std.specs.Prelude.{◌≡◌, ◌⊎◌, ℕ, List, [], ◌∷◌, ◌++◌, codes}
 use Rattle.hn_addr.specs.Addresses.{IsAddressStill}
 use Rattle.hn_base.specs.Name.{name_text}
 use Rattle.hn_base.specs.declared.name.Name.{Name}
 use Rattle.hn_data.specs.Said.{HasAddress}
 use Rattle.hn_own.specs.Addresses.{OwnAddress}
-use Rattle.hn_prefix.specs.AddressText.{address_text_of}
 use Rattle.hn_audit.specs.Reached.{IsReached}
 use Rattle.hn_audit.specs.Settled.{IsSettledByRules}
 use Rattle.hn_world.specs.declared.member.Member.{Member}
 use Rattle.hn_world.specs.declared.parts.Parts.{Parts}
-
--- an own address of a router
-abbrev pub address_line : Name → OwnAddress → List ℕ
-address_line name a = codes "address " ++ name_text name ++ codes " ep=" ++ decimal a.0.0 ++ codes " is=" ++ address_text_of a.1 ++ 10 ∷ []
-
--- how many it has, and each
-abbrev pub addresses_lines : Name → Member → List (List ℕ)
-addresses_lines name m =
-    (codes "addresses " ++ name_text name ++ codes " " ++ decimal (length m.router.addresses) ++ 10 ∷ [])
-    ∷ map (address_line name) m.router.addresses
 
 -- r is settled, and each of its set is still: nothing would be chosen anew
 abbrev pub AreAddressesStill : Parts → Member → Type 0

@@ -5,11 +5,11 @@ use Rattle.hn_script.specs.declared.line.Line.{Line}
 use Rattle.hn_wire.specs.declared.datagram.Datagram.{Datagram}
 use Rattle.hn_world.specs.declared.copies.MailCopy.{MailCopy}
 use Rattle.hn_world.specs.Refusal.{copy_at}
-use Rattle.hn_lab.specs.declared.end.End.TheVariants as end
-use Rattle.hn_lab.specs.Carrying.{sent_from}
+use Rattle.hn_play.specs.declared.end.End.TheVariants as end
+use Rattle.hn_play.specs.Carrying.{sent_from}
 use Rattle.hn_lab.specs.Laws.{IsKnownRoute}
 use Rattle.hn_lab.specs.Play.{IsPlay, IsCut}
-use Rattle.hn_lab.specs.Stage.{Stage, Ports}
+use Rattle.hn_play.specs.Stage.{Stage, Ports}
 
 -- A wire that tells what waits failed while a copy of the world was carried. What waited before is left, or that with the
 -- copy behind it; all else is as before.

@@ -13,11 +13,11 @@ use Rattle.hn_world.specs.declared.event.WEvent.TheVariants as event
 use Rattle.hn_world.specs.declared.member.Member.{Member}
 use Rattle.hn_world.specs.Names.{member_named}
 use Rattle.hn_world.specs.Asked.{unless_runs}
-use Rattle.hn_lab.specs.declared.end.Stop.{Stop}
-use Rattle.hn_lab.specs.Delivery.{EventEnds}
-use Rattle.hn_lab.specs.Process.{Process, Nothing, Unless, ThenProcess}
-use Rattle.hn_lab.specs.Stage.{Stage}
-use Rattle.hn_lab.specs.Tells.{TellsLines}
+use Rattle.hn_play.specs.declared.end.Stop.{Stop}
+use Rattle.hn_play.specs.Delivery.{EventEnds}
+use Rattle.hn_play.specs.Process.{Process, Nothing, Unless, ThenProcess}
+use Rattle.hn_play.specs.Stage.{Stage}
+use Rattle.hn_play.specs.Tells.{TellsLines}
 
 -- words are taken, the first to come
 pub record TakesWords (words : List ℕ) (before after : Stage) : Type 0 where

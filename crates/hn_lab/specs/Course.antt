@@ -5,15 +5,15 @@ use Rattle.hn_script.specs.Script.{IsDenseScript}
 use Rattle.hn_script.specs.declared.line.Line.{Line}
 use Rattle.hn_script.specs.declared.script.Script.{Script}
 use Rattle.hn_lab.specs.declared.course.Course.{Course as ACourse}
-use Rattle.hn_lab.specs.declared.end.End.{End}
-use Rattle.hn_lab.specs.declared.end.Stop.TheVariants.{Refused}
-use Rattle.hn_lab.specs.declared.playing.Playing.{Playing}
+use Rattle.hn_play.specs.declared.end.End.{End}
+use Rattle.hn_play.specs.declared.end.Stop.TheVariants.{Refused}
+use Rattle.hn_play.specs.declared.playing.Playing.{Playing}
 use Rattle.hn_lab.specs.Laws.{IsUnbroken}
 use Rattle.hn_lab.specs.Line.{LineEnds}
 use Rattle.hn_lab.specs.Open.{Opened}
-use Rattle.hn_lab.specs.Play.{begun, LinesDone, IsPlay}
-use Rattle.hn_lab.specs.Stage.{Stage, Mail, stage_of}
-use Rattle.hn_lab.specs.Told.{Told, bytes_of}
+use Rattle.hn_play.specs.Stage.{begun, Stage, Mail, stage_of}
+use Rattle.hn_lab.specs.Play.{LinesDone, IsPlay}
+use Rattle.hn_play.specs.Told.{Told, bytes_of}
 
 -- the script of its lines
 abbrev pub script_of : ACourse → Script

@@ -7,13 +7,13 @@ use Rattle.hn_script.specs.Script.{IsScript}
 use Rattle.hn_script.specs.declared.line.Line.{Line}
 use Rattle.hn_script.specs.declared.script.Script.{Script}
 use Rattle.hn_world.specs.Replay.{IsReplayed}
-use Rattle.hn_lab.specs.declared.end.End.{End}
-use Rattle.hn_lab.specs.declared.end.Stop.{Stop}
-use Rattle.hn_lab.specs.declared.end.Stop.TheVariants.{Refused}
+use Rattle.hn_play.specs.declared.end.End.{End}
+use Rattle.hn_play.specs.declared.end.Stop.{Stop}
+use Rattle.hn_play.specs.declared.end.Stop.TheVariants.{Refused}
 use Rattle.hn_lab.specs.Laws.{IsUnbroken}
-use Rattle.hn_lab.specs.Play.{begun, IsPlay}
-use Rattle.hn_lab.specs.Process.{Process}
-use Rattle.hn_lab.specs.Stage.{Stage, Mail}
+use Rattle.hn_play.specs.Stage.{begun, Stage, Mail}
+use Rattle.hn_lab.specs.Play.{IsPlay}
+use Rattle.hn_play.specs.Process.{Process}
 
 -- ---- a play so far
 

@@ -8,16 +8,16 @@ use Rattle.hn_script.specs.declared.fault.ScriptFault.{ScriptFault}
 use Rattle.hn_script.specs.declared.script.Script.{Script}
 use Rattle.hn_script.specs.Script.{IsScript, IsFirstFault}
 use Rattle.hn_world.specs.declared.parts.Parts.{Parts}
-use Rattle.hn_lab.specs.declared.end.End.{End}
-use Rattle.hn_lab.specs.declared.end.End.TheVariants.{Done, Refused, WireFailed}
-use Rattle.hn_lab.specs.Carrying.{IsLeftAt}
+use Rattle.hn_play.specs.declared.end.End.{End}
+use Rattle.hn_play.specs.declared.end.End.TheVariants.{Done, Refused, WireFailed}
+use Rattle.hn_play.specs.Carrying.{IsLeftAt}
 use Rattle.hn_lab.specs.Laws.{IsKnownRoute}
 use Rattle.hn_streams.specs.Output.{IsPart, IsFrontOf}
 use Rattle.hn_lab.specs.Output.{IsCutText}
-use Rattle.hn_lab.specs.Play.{begun, IsPlay, IsCut, IsCutPlay}
+use Rattle.hn_play.specs.Stage.{begun, Stage, Route}
+use Rattle.hn_lab.specs.Play.{IsPlay, IsCut, IsCutPlay}
 use Rattle.hn_streams.specs.Refusal.{refused_line}
-use Rattle.hn_lab.specs.Stage.{Stage, Route}
-use Rattle.hn_lab.specs.Told.{bytes_of}
+use Rattle.hn_play.specs.Told.{bytes_of}
 
 -- the status of an end: 0 for done, 2 for refused, 5 where the wire failed
 abbrev pub status_of : End → ℕ

@@ -15,13 +15,13 @@ use Rattle.hn_sync.specs.Laws.{ExchangeIsUnique}
 use Rattle.hn_wire.specs.declared.datagram.Datagram.{Datagram}
 use Rattle.hn_world.specs.declared.event.WEvent.TheVariants as event
 use Rattle.hn_world.specs.Laws.{StepIsUnique, AgreementIsUnique}
-use Rattle.hn_lab.specs.declared.end.End.{End}
-use Rattle.hn_lab.specs.declared.end.End.TheVariants as end
-use Rattle.hn_lab.specs.declared.end.Stop.{Stop}
-use Rattle.hn_lab.specs.Delivery.{EventNotes, DeliveryEnds}
+use Rattle.hn_play.specs.declared.end.End.{End}
+use Rattle.hn_play.specs.declared.end.End.TheVariants as end
+use Rattle.hn_play.specs.declared.end.Stop.{Stop}
+use Rattle.hn_play.specs.Delivery.{EventNotes, DeliveryEnds}
 use Rattle.hn_lab.specs.Play.{IsPlay, IsCut, IsCutPlay}
-use Rattle.hn_lab.specs.Stage.{Stage, Route, Mail, Ports}
-use Rattle.hn_lab.specs.Told.{Told}
+use Rattle.hn_play.specs.Stage.{Stage, Route, Mail, Ports}
+use Rattle.hn_play.specs.Told.{Told}
 
 -- Bytes are at most one Router Advertisement.
 abbrev pub AdvertIsUnique : Type 0

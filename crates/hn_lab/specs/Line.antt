@@ -1,5 +1,5 @@
 -- How each line of a script ends.
-use Rattle.std.specs.Prelude.{◌≡◌, ℕ, ◌+◌, ◌*◌, ◌^◌, Bool, true, false, List, [], ◌∷◌, Option, None, Some}
+use Rattle.std.specs.Prelude.{ℕ, ◌+◌, ◌*◌, ◌^◌, Bool, true, false, List, [], ◌∷◌, Option, None, Some}
 use Rattle.std.specs.Option.{option_map, option_and_then}
 use Rattle.std.specs.List.{slice_get}
 use Rattle.rand_core.specs.Pcg32Seed.{pcg32_seed}
@@ -17,21 +17,23 @@ use Rattle.hn_world.specs.declared.event.WEvent.{WEvent}
 use Rattle.hn_world.specs.declared.event.WEvent.TheVariants as event
 use Rattle.hn_world.specs.declared.parts.Parts.{Parts}
 use Rattle.hn_world.specs.Refusal.{copy_at}
-use Rattle.hn_lab.specs.Stage.{Stage}
-use Rattle.hn_lab.specs.Process.{Process, Nothing, Unless, ThenProcess}
+use Rattle.hn_play.specs.Stage.{Stage}
+use Rattle.hn_play.specs.Process.{Process, Unless, ThenProcess}
 use Rattle.hn_addr.specs.Addresses.{IsChoice}
 use Rattle.hn_ula.specs.Ula.{Decides}
 use Rattle.hn_lab.specs.declared.report.About.TheVariants as about
 use Rattle.hn_lab.specs.declared.report.Report.{Report}
 use Rattle.hn_lab.specs.declared.report.Report.TheVariants as report
 use Rattle.hn_lab.specs.Choosing.{chosen_event, decided_event, Chooses}
-use Rattle.hn_lab.specs.Delivery.{EventNotes, EventEnds, DeliveryEnds}
-use Rattle.hn_lab.specs.Events.{Flow, Runs}
-use Rattle.hn_lab.specs.Report.{unless_elects, ReportEnds}
-use Rattle.hn_lab.specs.Sending.{Turns, Solicits, starting, ended_sending, ending_all}
+use Rattle.hn_play.specs.Delivery.{EventNotes, EventEnds, DeliveryEnds}
+use Rattle.hn_play.specs.Events.{Flow, Runs}
+use Rattle.hn_play.specs.Electing.{unless_elects}
+use Rattle.hn_lab.specs.Report.{ReportEnds}
+use Rattle.hn_play.specs.Sending.{Solicits, starting}
 use Rattle.hn_lab.specs.Syncing.{SyncEnds}
-use Rattle.hn_lab.specs.Tells.{TellsLines, note_lines}
-use Rattle.hn_lab.specs.UlaReports.{ula_line}
+use Rattle.hn_play.specs.Tells.{TellsLines, note_lines}
+use Rattle.hn_report.specs.UlaLines.{ula_line}
+use Rattle.hn_play.specs.Following.{Sets, Follows}
 
 -- an event, and a line for each of its notes
 abbrev pub Noted : WEvent → Option Name → Process
@@ -42,10 +44,6 @@ Noted event name stop before after =
 abbrev pub Delivered : ℕ → Option Name → Process
 Delivered copy name stop before after =
     (notes : List Note) × ThenProcess (DeliveryEnds copy notes) (TellsLines (note_lines name notes)) stop before after
-
--- something else than the world is set
-abbrev pub Sets : (Stage → Stage) → Process
-Sets change stop before after = (stop ≡ None) × (after ≡ change before)
 
 -- a seed begins the words anew
 abbrev pub seeded : ℕ → Stage → Stage
@@ -121,15 +119,6 @@ OtherEnds (line.Sync left right) stop before after = SyncEnds left right stop be
 OtherEnds (line.Radv name e) stop before after = ThenProcess (Unless (unless_elects name e before.world)) (Sets (starting name e)) stop before after
 OtherEnds (line.Solicit name e) stop before after = ThenProcess (Unless (unless_elects name e before.world)) (Solicits name e) stop before after
 OtherEnds _ stop before after = ⊥
-
--- what follows an event that is a line: after a tick of a router its Router Advertisements, and no sender outlives a detach
--- of its endpoint, or a stop or a start of its router
-abbrev pub Follows : WEvent → Process
-Follows (event.Tick name) stop before after = Turns name stop before after
-Follows (event.Detach name e) stop before after = Sets (ended_sending name e) stop before after
-Follows (event.Stop name) stop before after = Sets (ending_all name) stop before after
-Follows (event.Start name) stop before after = Sets (ending_all name) stop before after
-Follows _ stop before after = Nothing stop before after
 
 -- a line that is no event
 abbrev pub EndsAs : Line → Option Report → Process

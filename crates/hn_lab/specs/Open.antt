@@ -13,14 +13,14 @@ use Rattle.hn_sync.specs.Exchange.{unless_exchange}
 use Rattle.hn_world.specs.declared.parts.Parts.{Parts}
 use Rattle.hn_world.specs.Asked.{unless_runs}
 use Rattle.hn_world.specs.Replay.{empty_world}
-use Rattle.hn_lab.specs.declared.end.End.{End}
-use Rattle.hn_lab.specs.declared.end.End.TheVariants as end
+use Rattle.hn_play.specs.declared.end.End.{End}
+use Rattle.hn_play.specs.declared.end.End.TheVariants as end
 use Rattle.hn_lab.specs.declared.course.OpenFault.{OpenFault}
 use Rattle.hn_lab.specs.declared.course.OpenFault.TheVariants as fault
-use Rattle.hn_lab.specs.declared.end.Stop.TheVariants.{Refused}
+use Rattle.hn_play.specs.declared.end.Stop.TheVariants.{Refused}
 use Rattle.hn_lab.specs.Line.{LineEnds, report_of}
-use Rattle.hn_lab.specs.Play.{begun, LinesDone, IsPlay}
-use Rattle.hn_lab.specs.Stage.{Stage, Mail}
+use Rattle.hn_play.specs.Stage.{begun, Stage, Mail}
+use Rattle.hn_lab.specs.Play.{LinesDone, IsPlay}
 
 -- The lines so far, as a script, and its bytes; how their play ended, which is done where lines may be added, and nothing where
 -- memory ended; the world that they led to, and the text that came up.

@@ -2,10 +2,10 @@
 use Rattle.std.specs.Prelude.{◌≡◌, ◌≢◌, ℕ, List, Option, Some}
 use Rattle.hn_script.specs.Script.{IsScript}
 use Rattle.hn_world.specs.declared.parts.Parts.{Parts}
-use Rattle.hn_lab.specs.declared.end.End.{End}
+use Rattle.hn_play.specs.declared.end.End.{End}
 use Rattle.hn_lab.specs.Lab.{status_of, IsLabRun}
 use Rattle.hn_lab.specs.Open.{Opened}
-use Rattle.hn_lab.specs.Stage.{Route, Mail}
+use Rattle.hn_play.specs.Stage.{Route, Mail}
 use Rattle.hn_lab.specs.Transcripts.{Transcript, IsTranscript, IsWrittenOf}
 
 -- what the play so far comes to, with this end

@@ -3,23 +3,16 @@ use Rattle.std.specs.Prelude.{◌≡◌, ◌⊎◌, ℕ, List, [], ◌∷◌, �
 use Rattle.hn_io.specs.declared.fault.IoFault.{IoFault}
 use Rattle.hn_io.specs.declared.fault.IoFault.TheVariants.{Failed}
 use Rattle.hn_script.specs.declared.line.Line.{Line}
-use Rattle.hn_base.specs.declared.version.Version.{Version}
-use Rattle.hn_world.specs.Replay.{empty_world}
-use Rattle.hn_lab.specs.declared.end.End.{End}
-use Rattle.hn_lab.specs.declared.end.End.TheVariants as end
-use Rattle.hn_lab.specs.declared.end.Stop.{Stop}
-use Rattle.hn_lab.specs.declared.end.Stop.TheVariants.{Refused, WireFailed, Cut}
+use Rattle.hn_play.specs.declared.end.End.{End}
+use Rattle.hn_play.specs.declared.end.End.TheVariants as end
+use Rattle.hn_play.specs.declared.end.Stop.{Stop}
+use Rattle.hn_play.specs.declared.end.Stop.TheVariants.{Refused, WireFailed, Cut}
 use Rattle.hn_lab.specs.Line.{LineEnds}
-use Rattle.hn_lab.specs.Process.{Process}
+use Rattle.hn_play.specs.Process.{Process}
 use Rattle.hn_streams.specs.Refusal.{refused_line}
-use Rattle.hn_lab.specs.Stage.{Stage, Route, telling}
-use Rattle.hn_lab.specs.Tells.{TellsLines}
-use Rattle.hn_lab.specs.Told.{Told, told}
-
--- Where the play of a script of a version begins, over a route: nothing has happened, no copy is lost, each word is 0, no
--- endpoint sends Router Advertisements, and there is no text.
-abbrev pub begun : Route → Version → Stage
-begun route version = record { world = empty_world version; loss = 0; words = λ _. 0; route = route; senders = []; text = [] }
+use Rattle.hn_play.specs.Stage.{Stage, telling}
+use Rattle.hn_play.specs.Tells.{TellsLines}
+use Rattle.hn_play.specs.Told.{Told, told}
 
 -- a line of this number ends; where it is refused, the line of text that says so comes up
 abbrev pub LineSaid : ℕ → Line → Process

@@ -1,33 +1,25 @@
 -- What a report tells, and when it is refused. docs/FORMATS.md has the table.
-use Rattle.std.specs.Prelude.{◌≡◌, ℕ, count_by, List, length, Option, None, Some}
-use Rattle.std.specs.Option.{option_or}
+use Rattle.std.specs.Prelude.{◌≡◌, ℕ, List, Option, None, Some}
 use Rattle.hn_base.specs.Name.{name_text}
-use Rattle.hn_base.specs.declared.ids.EpId.{EpId}
 use Rattle.hn_base.specs.declared.name.Name.{Name}
 use Rattle.hn_world.specs.declared.member.Member.{Member}
 use Rattle.hn_world.specs.declared.parts.Parts.{Parts}
 use Rattle.hn_world.specs.Names.{member_named}
-use Rattle.hn_world.specs.Asked.{of_router, unless_running, unless_attached, unless_both_run}
+use Rattle.hn_world.specs.Asked.{of_router, unless_running, unless_both_run}
 use Rattle.hn_lab.specs.declared.report.About.{About}
 use Rattle.hn_lab.specs.declared.report.About.TheVariants as about
 use Rattle.hn_lab.specs.declared.report.Report.{Report}
 use Rattle.hn_lab.specs.declared.report.Report.TheVariants as report
-use Rattle.hn_lab.specs.AddressReports.{addresses_lines, IsAddressedLine}
-use Rattle.hn_lab.specs.AdvertReports.{IsAdvertLine}
+use Rattle.hn_report.specs.AddressLines.{addresses_lines}
+use Rattle.hn_lab.specs.AddressReports.{IsAddressedLine}
+use Rattle.hn_report.specs.AdvertReports.{IsAdvertLine}
 use Rattle.hn_lab.specs.AuditReports.{IsAuditLine}
-use Rattle.hn_lab.specs.PrefixReports.{AreUsedLines, prefixes_lines, IsElectLine}
-use Rattle.hn_lab.specs.Process.{Process}
-use Rattle.hn_lab.specs.Reports.{show_line, hash_line, IsCompareLine, mail_line}
-use Rattle.hn_lab.specs.Tells.{IsOneLine, Reports}
+use Rattle.hn_report.specs.PrefixReports.{AreUsedLines, prefixes_lines, IsElectLine}
+use Rattle.hn_play.specs.Process.{Process}
+use Rattle.hn_report.specs.RouterReports.{show_line, hash_line, Compares, mail_report}
+use Rattle.hn_play.specs.Tells.{IsOneLine, Reports}
 use Rattle.hn_lab.specs.UlaReports.{IsUlasLine}
-
--- 12: the router is stopped; 11, beside this: its endpoint is not attached
-abbrev pub unless_on : EpId → Member → Option ℕ
-unless_on e m = option_or (unless_running m) (unless_attached e m)
-
--- of the router of a name
-abbrev pub unless_elects : Name → EpId → Parts → Option ℕ
-unless_elects name e w = of_router (unless_on e) (member_named (name_text name) w)
+use Rattle.hn_play.specs.Electing.{unless_on}
 
 -- what a report tells of the router of a name
 abbrev pub Tells : {A : Type 0} → Name → Parts → (Member → A → Type 0) → A → Type 0
@@ -56,18 +48,6 @@ IsAbout about.Addressed name w m lines = IsOneLine (IsAddressedLine name w m) li
 IsAbout about.Ulas name w m lines = IsOneLine (IsUlasLine name w m) lines
 
 -- ---- all reports
-
--- a line on two routers
-pub record Compares (left right : Name) (w : Parts) (line : List ℕ) : Type 0 where
-  pub a : Member
-  pub b : Member
-  pub is_left : member_named (name_text left) w ≡ Some a
-  pub is_right : member_named (name_text right) w ≡ Some b
-  pub is_line : IsCompareLine left right a b line
-
--- the line on the mail
-abbrev pub mail_report : Parts → List ℕ
-mail_report w = mail_line (length w.copies) (count_by (λ c. c.waiting) w.copies)
 
 -- the code with which a report is refused
 abbrev pub unless_report : Report → Parts → Option ℕ

@@ -3,9 +3,9 @@ use Rattle.std.specs.Prelude.{◌≡◌, ℕ, Option, None, Some}
 use Rattle.hn_base.specs.declared.name.Name.{Name}
 use Rattle.hn_sync.specs.Exchange.{ExchangeEnds, unless_exchange}
 use Rattle.hn_sync.specs.Repairs.{Repairs}
-use Rattle.hn_lab.specs.declared.end.Stop.TheVariants.{Refused, WireFailed, Cut}
-use Rattle.hn_lab.specs.Process.{Process, Unless, ThenProcess}
-use Rattle.hn_lab.specs.Stage.{Stage}
+use Rattle.hn_play.specs.declared.end.Stop.TheVariants.{Refused, WireFailed, Cut}
+use Rattle.hn_play.specs.Process.{Process, Unless, ThenProcess}
+use Rattle.hn_play.specs.Stage.{Stage}
 
 -- An exchange goes on to its end, or to an event that is refused with this code. It takes the next of the words that are to
 -- come. Its deliveries are events: no wire is used.

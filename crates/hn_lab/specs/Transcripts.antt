@@ -10,9 +10,9 @@ use Rattle.hn_lab.specs.Existing.{PlayEnd}
 use Rattle.hn_lab.specs.Lab.{Plays, status_of, HasDonePlay, HasRefusal, IsLabRun}
 use Rattle.hn_lab.specs.Laws.{IsUnbroken}
 use Rattle.hn_streams.specs.Output.{IsFrontOf}
-use Rattle.hn_lab.specs.Play.{begun, IsPlay}
-use Rattle.hn_lab.specs.Stage.{Route, Mail}
-use Rattle.hn_lab.specs.Told.{bytes_of}
+use Rattle.hn_play.specs.Stage.{begun, Route, Mail}
+use Rattle.hn_lab.specs.Play.{IsPlay}
+use Rattle.hn_play.specs.Told.{bytes_of}
 
 -- what the play of a script comes to: its status, the world that it leads to, and its text
 pub record Transcript : Type 0 where

@@ -4,25 +4,13 @@ use Rattle.std.specs.Fmt.{decimal}
 use Rattle.hn_base.specs.Name.{name_text}
 use Rattle.hn_base.specs.Prefix.{PlainPrefix}
 use Rattle.hn_base.specs.declared.name.Name.{Name}
-use Rattle.hn_prefix.specs.PrefixText.{prefix_text_of}
 use Rattle.hn_rules.specs.Seen.{seen_by}
 use Rattle.hn_ula.specs.Ula.{IsForeign, IsOwnOf, IsUlaStill}
-use Rattle.hn_ula.specs.declared.decision.Ula.{Ula}
-use Rattle.hn_ula.specs.declared.decision.Ula.TheVariants as ula
 use Rattle.hn_audit.specs.Reached.{IsReached}
 use Rattle.hn_audit.specs.Set.{is_in_set}
 use Rattle.hn_audit.specs.Settled.{IsSettledByRules}
 use Rattle.hn_world.specs.declared.member.Member.{Member}
 use Rattle.hn_world.specs.declared.parts.Parts.{Parts}
-
--- what a router decided
-abbrev pub ula_text : Ula → List ℕ
-ula_text ula.Keep = codes "keep"
-ula_text (ula.Announce prefix) = codes "announce=" ++ prefix_text_of prefix
-ula_text (ula.Withdraw prefix) = codes "withdraw=" ++ prefix_text_of prefix
-
-abbrev pub ula_line : Name → Ula → List ℕ
-ula_line name decided = codes "ula " ++ name_text name ++ codes " " ++ ula_text decided ++ 10 ∷ []
 
 -- r is settled, and each of its set is still: nothing would be decided anew
 abbrev pub ArePrefixesStill : Parts → Member → Type 0

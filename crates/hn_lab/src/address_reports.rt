@@ -1,63 +1,21 @@
 //! The reports on the addresses of routers.
 
-ghost use Rattle.std.specs.Prelude.{◌≡◌, ◌++◌, ◌↔◌, None, Some, map, IfOk, OnOk, IsTrue, All, string_bytes};
+ghost use Rattle.std.specs.Prelude.{◌≡◌, ◌↔◌, None, Some, IfOk, IsTrue, All, string_bytes};
 ghost use Rattle.hn_addr.specs.Addresses.{IsAddressStill};
 ghost use Rattle.hn_base.specs.Name.{name_text};
 ghost use Rattle.hn_world.specs.Names.{member_named};
 ghost use Rattle.hn_world.specs.Asked.{unless_running};
 ghost use Rattle.hn_audit.specs.Reached.{runs};
 ghost use Rattle.hn_audit.specs.Set.{is_in_set};
-ghost use Rattle.hn_lab.specs.AddressReports.{address_line, addresses_lines, IsAddressed, IsAddressedLine};
+ghost use Rattle.hn_lab.specs.AddressReports.{IsAddressed, IsAddressedLine};
 
-use crate::lines::Lines;
 use crate::set::is_in_set;
 use hn_addr::{still, still_addresses_stay};
 use hn_audit::{Audit, settled_see_each_other};
-use hn_base::{EpId, Name, NoMemory, NodeId};
-use hn_prefix::address_text;
+use hn_base::{Name, NoMemory, NodeId};
 use hn_rules::{own_addresses_are_said, own_version_is_said};
 use hn_world::{Member, World, always_sound};
-use std::alloc::{AllocError, Global};
-
-/// The line on an own address.
-fn address_line(alloc: Global, name: &Name, own: &(EpId, u128)) -> Result<String, AllocError>
-    ensures { IfOk result (λ line. string_bytes line ≡ address_line name.now own.now) }
-{
-    let EpId(e) = own.0;
-    let address = address_text(own.1);
-    format!(in alloc; "address {name} ep={e} is={address}\n")
-}
-
-/// Adds a line on each own address.
-fn add_address_lines(
-    alloc: Global,
-    lines: &mut Lines,
-    name: &Name,
-    addresses: &[(EpId, u128)],
-) -> Result<(), NoMemory>
-    ensures { OnOk result (lines.new ≡ lines.old ++ map (address_line name.now) addresses.now) }
-{
-    for own in addresses {
-        lines.push(address_line(alloc, name, own)?)?;
-    }
-    Ok(())
-}
-
-/// The lines on the addresses that a router has.
-pub(crate) fn addresses_lines(
-    alloc: Global,
-    name: &Name,
-    member: &Member,
-) -> Result<Lines, NoMemory>
-    ensures { IfOk result (λ lines. lines ≡ addresses_lines name.now member.now) }
-{
-    let addresses = member.router.addresses();
-    let mut lines = Lines::new(alloc);
-    let count = addresses.len();
-    lines.push(format!(in alloc; "addresses {name} {count}\n")?)?;
-    add_address_lines(alloc, &mut lines, name, addresses)?;
-    Ok(lines)
-}
+use std::alloc::Global;
 
 /// Whether a router would choose nothing anew, if it runs and has one of these identifiers.
 fn is_still(alloc: Global, member: &Member, reach: &[NodeId]) -> Result<bool, NoMemory>

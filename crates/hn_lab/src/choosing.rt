@@ -1,27 +1,28 @@
 //! What a router chooses for itself: its addresses, and a delegated prefix of its own making.
 
-ghost use Rattle.std.specs.Prelude.{◌≡◌, ◌∷◌, [], List, Option, None, Some, Err, IfOk, IfSome, string_bytes};
+ghost use Rattle.std.specs.Prelude.{◌≡◌, List, Option, None, Some, Err, IfSome};
 ghost use Rattle.hn_base.specs.Name.{name_text};
 ghost use Rattle.hn_script.specs.declared.line.Line.TheVariants as line;
 ghost use Rattle.hn_lab.specs.Choosing.{chosen_event, decided_event, MayHappen};
-ghost use Rattle.hn_lab.specs.Ended.{IsAnswered, IsAnsweredLeaving};
+ghost use Rattle.hn_play.specs.Ended.{IsAnswered, IsAnsweredLeaving};
 ghost use Rattle.hn_lab.specs.Line.{OtherEnds};
-ghost use Rattle.hn_lab.specs.Stage.{Route, stage_of};
-ghost use Rattle.hn_lab.specs.Told.{Told};
-ghost use Rattle.hn_lab.specs.UlaReports.{ula_text, ula_line};
+ghost use Rattle.hn_play.specs.Stage.{Route, stage_of};
+ghost use Rattle.hn_play.specs.Told.{Told};
+ghost use Rattle.hn_report.specs.UlaLines.{ula_line};
 ghost use Rattle.hn_world.specs.Names.{member_named};
 ghost use Rattle.hn_world.specs.Asked.{unless_runs};
 ghost use Rattle.hn_world.specs.Step.{IsWorldEventInRange};
 ghost use Rattle.hn_world.specs.declared.member.Member.{Member};
 
-use crate::lines::Lines;
-use crate::playing::Playing;
 use hn_addr::{Choice, choose};
-use hn_base::{Name, NoMemory};
+use hn_base::Name;
+use hn_play::Playing;
+use hn_report::ula_line;
 use hn_router::Router;
+use hn_streams::Lines;
 use hn_ula::{Ula, decide};
 use hn_world::{WEvent, World, WorldFault};
-use std::alloc::{AllocError, Global};
+use std::alloc::Global;
 
 /// The running router of a name.
 fn running<'a>(world: &'a World, name: &Name) -> &'a Router
@@ -63,31 +64,6 @@ fn decided_event(name: Name, decided: &Ula) -> Option<WEvent>
             prefix: *prefix,
         }),
     }
-}
-
-/// What a router decided.
-fn ula_text(alloc: Global, decided: &Ula) -> Result<String, AllocError>
-    ensures { IfOk result (λ text. string_bytes text ≡ ula_text decided.now) }
-{
-    match decided {
-        Ula::Keep => String::from_str(alloc, "keep"),
-        Ula::Announce(prefix) => {
-            let prefix = prefix.text();
-            format!(in alloc; "announce={prefix}")
-        }
-        Ula::Withdraw(prefix) => {
-            let prefix = prefix.text();
-            format!(in alloc; "withdraw={prefix}")
-        }
-    }
-}
-
-/// The line on what a router decided, alone.
-fn ula_line(alloc: Global, name: &Name, decided: &Ula) -> Result<Lines, NoMemory>
-    ensures { IfOk result (λ lines. lines ≡ ula_line name.now decided.now ∷ []) }
-{
-    let text = ula_text(alloc, decided)?;
-    Lines::of(alloc, format!(in alloc; "ula {name} {text}\n")?)
 }
 
 /// An event happens, if there is one. Nothing comes up.

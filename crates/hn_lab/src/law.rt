@@ -2,11 +2,11 @@
 
 ghost use Rattle.hn_lab.specs.Breaking.{WireFailsAtACopy};
 ghost use Rattle.hn_lab.specs.Laws.{AtMostOnePlay, AtMostOneCutPlay, CutTextsAreFronts, BrokenTextsAreFronts, MailDelivers, ResultsAreUnique};
-ghost use Rattle.hn_lab.specs.Resting.{LastingRunKeepsCalm, CalmLinesKeepCalm, RunBringsCalm, RunKeepsCalm};
+ghost use Rattle.hn_lab.specs.Resting.{EventsKeepQuiet, LastingRunKeepsCalm, CalmLinesKeepCalm, RunBringsCalm, RunKeepsCalm};
 
 use hn_addr::choice_is_unique;
 use hn_advert::advert_is_unique;
-use hn_audit::{calm_comes_and_lasts, rest_goes_in_turns};
+use hn_audit::{calm_comes_and_lasts, quiet_homes_stay, rest_goes_in_turns};
 use hn_deleg::usable_is_unique;
 use hn_link::{common_link_is_unique, elected_is_unique};
 use hn_router::router_has_one_advert;
@@ -87,4 +87,11 @@ pub fn run_keeps_calm()
     mail_delivers();
     rest_goes_in_turns();
     calm_comes_and_lasts();
+}
+
+/// Over each event of a play a settled and quiet router stays so, as `QuietStays` says, also where memory ends later.
+pub fn events_keep_quiet()
+    ensures { EventsKeepQuiet }
+{
+    quiet_homes_stay();
 }

@@ -5,15 +5,15 @@ ghost use Rattle.hn_script.specs.Entries.{IsEntry};
 ghost use Rattle.hn_script.specs.Laws.{IsLimited};
 ghost use Rattle.hn_script.specs.Line.{IsOfVersion, of_version};
 ghost use Rattle.hn_script.specs.Script.{IsScript};
-ghost use Rattle.hn_lab.specs.declared.end.End.TheVariants as ends;
+ghost use Rattle.hn_play.specs.declared.end.End.TheVariants as ends;
 ghost use Rattle.hn_lab.specs.Open.{begun_play, LineGoes, GoesByText, ScriptHasNoRoom, PlayedLinesGoOn, PlainRefusalsChangeNothing};
 ghost use Rattle.hn_lab.specs.OpenTranscript.{IsOfItsTranscript, LabPlaysTheSource};
 
 use crate::course::{Course, OpenFault};
-use crate::end::End;
 use crate::existing::written_is_of_transcript;
 use crate::law::mail_delivers;
 use hn_base::{NoMemory, Version};
+use hn_play::End;
 use hn_script::{
     LARGE, Line, ReadFault, SOURCE_LIMIT, fault_excludes_script, line_is_unique, lines_are_added,
     read_line, script_is_unique,

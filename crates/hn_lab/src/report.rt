@@ -5,17 +5,20 @@ ghost use Rattle.hn_base.specs.Name.{name_text};
 ghost use Rattle.hn_world.specs.Names.{member_named};
 ghost use Rattle.hn_world.specs.declared.event.WorldFault.TheVariants as fault;
 ghost use Rattle.hn_world.specs.Asked.{unless_running};
-ghost use Rattle.hn_lab.specs.Report.{unless_on, unless_elects, unless_about, unless_report, IsAbout, IsReport};
+ghost use Rattle.hn_play.specs.Electing.{unless_on};
+ghost use Rattle.hn_lab.specs.Report.{unless_about, unless_report, IsAbout, IsReport};
 
-use crate::address_reports::{addressed_line, addresses_lines};
-use crate::advert_report::advert_line;
+use crate::address_reports::addressed_line;
 use crate::audit_report::audit_line;
-use crate::lines::Lines;
-use crate::prefix_reports::{elect_line, prefixes_lines, used_lines};
-use crate::reports::{compare_line, hash_line, mail_line, show_line};
 use crate::ula_report::ulas_line;
 use hn_base::{EpId, Letter, Name, NoMemory};
-use hn_world::{Member, NOT_ATTACHED, STOPPED, UNKNOWN, World, WorldFault};
+use hn_play::unless_on;
+use hn_report::{
+    addresses_lines, advert_line, compare_line, elect_line, hash_line, mail_line, prefixes_lines,
+    show_line, used_lines,
+};
+use hn_streams::Lines;
+use hn_world::{Member, STOPPED, UNKNOWN, World, WorldFault};
 use std::alloc::Global;
 
 /// What of a router is looked at.
@@ -59,29 +62,6 @@ fn unless_running(member: &Member) -> Option<u8>
     ensures { result ≡ unless_running member.now }
 {
     if member.running { None } else { Some(STOPPED) }
-}
-
-/// The code where a router is stopped, or has not attached an endpoint.
-fn unless_on(member: &Member, endpoint: EpId) -> Option<u8>
-    ensures { result ≡ unless_on endpoint member.now }
-{
-    if !member.running {
-        return Some(STOPPED);
-    }
-    if !member.router.attached(endpoint) {
-        return Some(NOT_ATTACHED);
-    }
-    None
-}
-
-/// The code where there is no router of a name, it is stopped, or it has not attached an endpoint.
-pub(crate) fn unless_elects(world: &World, name: &Name, endpoint: EpId) -> Option<u8>
-    ensures { result ≡ unless_elects name.now endpoint world.now.parts }
-{
-    match world.member(name) {
-        Some(member) => unless_on(member, endpoint),
-        None => Some(UNKNOWN),
-    }
 }
 
 /// The code where this is not told of a router.

@@ -7,24 +7,22 @@ ghost use Rattle.hn_script.specs.Line.{IsOfVersion};
 ghost use Rattle.hn_streams.specs.Refusal.{refused_line};
 ghost use Rattle.hn_world.specs.SeenWorld.{world_parts};
 ghost use Rattle.hn_world.specs.Replay.{IsReplayed};
-ghost use Rattle.hn_lab.specs.declared.end.End.TheVariants as ends;
+ghost use Rattle.hn_play.specs.declared.end.End.TheVariants as ends;
 ghost use Rattle.hn_lab.specs.Lab.{play_status, Plays, IsLineWritten, IsLabOf, IsLabRun, StatusOfScript, HasDonePlay, HasRefusal};
-ghost use Rattle.hn_lab.specs.Stage.{Mail as ByMail, route_of};
+ghost use Rattle.hn_play.specs.Stage.{Mail as ByMail, route_of};
 ghost use Rattle.hn_lab.specs.Transcripts.{IsLabTranscript, AppendsTranscript};
 
-use crate::carrying::{Carrier, Mail, Ports};
-use crate::end::End;
 use crate::existing::{lab_is_of_transcript, play_is_of_transcript};
 use crate::law::at_most_one_play;
-use crate::playing::Playing;
 use crate::plays::play_lines;
 use hn_io::{IoFault, Sink, Source};
+use hn_play::{Carrier, End, Mail, Playing, Ports};
 use hn_script::{
     ParseFault, Script, ScriptFault, fault_excludes_script, lines_are_of_version, parse,
     script_is_limited, script_is_unique,
 };
-pub use hn_streams::{DONE, NO_MEMORY, REFUSED, SINK_FAILED, SOURCE_FAILED, WIRE_FAILED};
 use hn_streams::{read_all, write_refusal};
+pub use hn_streams::{DONE, NO_MEMORY, REFUSED, SINK_FAILED, SOURCE_FAILED, WIRE_FAILED};
 use hn_wire::{MemWire, Wire};
 use hn_world::World;
 use std::alloc::Global;

@@ -2,14 +2,14 @@
 
 ghost use Rattle.std.specs.Prelude.{List};
 ghost use Rattle.hn_script.specs.declared.line.Line.TheVariants as line;
-ghost use Rattle.hn_lab.specs.Ended.{IsAnsweredLeaving};
+ghost use Rattle.hn_play.specs.Ended.{IsAnsweredLeaving};
 ghost use Rattle.hn_lab.specs.Line.{OtherEnds};
-ghost use Rattle.hn_lab.specs.Stage.{Route, stage_of};
-ghost use Rattle.hn_lab.specs.Told.{Told};
+ghost use Rattle.hn_play.specs.Stage.{Route, stage_of};
+ghost use Rattle.hn_play.specs.Told.{Told};
 
-use crate::lines::Lines;
-use crate::playing::Playing;
 use hn_base::Name;
+use hn_play::Playing;
+use hn_streams::Lines;
 use hn_sync::Exchange;
 use hn_world::WorldFault;
 use std::alloc::Global;

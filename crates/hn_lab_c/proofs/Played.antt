@@ -3,7 +3,7 @@ use Rattle.hn_base.proofs.Names.{◌≡◌, ◌∙◌, ℕ, List, Option, Some, 
 use Rattle.std.specs.Prelude.{Result, IfSome}
 use Rattle.hn_lab.specs.declared.course.OpenFault.{OpenFault}
 use Rattle.hn_lab.specs.declared.course.OpenFault.TheVariants as fault
-use Rattle.hn_lab.specs.declared.end.End.TheVariants as ends
+use Rattle.hn_play.specs.declared.end.End.TheVariants as ends
 use Rattle.hn_lab.specs.Open.{Opened, GoesByText}
 use Rattle.hn_world.specs.declared.parts.Parts.{Parts}
 use Rattle.hn_lab_c.specs.Calls.{line_status, TakesLine, HasTakenLine}

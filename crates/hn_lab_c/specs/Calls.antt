@@ -4,7 +4,7 @@ use Rattle.hn_base.specs.declared.version.Version.{Version}
 use Rattle.hn_base.specs.declared.version.Version.TheVariants.{One, Two}
 use Rattle.hn_lab.specs.declared.course.OpenFault.{OpenFault}
 use Rattle.hn_lab.specs.declared.course.OpenFault.TheVariants as fault
-use Rattle.hn_lab.specs.declared.end.End.TheVariants as ends
+use Rattle.hn_play.specs.declared.end.End.TheVariants as ends
 use Rattle.hn_lab.specs.Open.{Opened, begun_play, GoesByText}
 
 -- the version of the language of scripts that has a number

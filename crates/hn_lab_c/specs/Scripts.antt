@@ -1,11 +1,11 @@
 -- The script of a play, as `lab` plays it.
 use Rattle.std.specs.Prelude.{◌≡◌, ◌≢◌, ℕ, List, Option, Some}
 use Rattle.hn_world.specs.declared.parts.Parts.{Parts}
-use Rattle.hn_lab.specs.declared.end.End.{End}
+use Rattle.hn_play.specs.declared.end.End.{End}
 use Rattle.hn_lab.specs.Lab.{IsLabRun}
 use Rattle.hn_lab.specs.Open.{Opened}
 use Rattle.hn_lab.specs.OpenTranscript.{transcript_so_far}
-use Rattle.hn_lab.specs.Stage.{Route, Mail}
+use Rattle.hn_play.specs.Stage.{Route, Mail}
 use Rattle.hn_lab.specs.Transcripts.{IsWrittenOf}
 
 -- Where memory did not end, what `lab` writes of the bytes of the script is of the transcript so far: with status 0 or 2 it is the text

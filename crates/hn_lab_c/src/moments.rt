@@ -2,7 +2,7 @@
 
 ghost use Rattle.std.specs.Prelude.{◌≡◌, ◌↔◌, IfSome, IfNone, IsTrue, Some, false, suc, length, count_by, unwrap_or};
 ghost use Rattle.std.specs.Option.{option_map};
-ghost use Rattle.hn_lab.specs.declared.end.End.TheVariants as ends;
+ghost use Rattle.hn_play.specs.declared.end.End.TheVariants as ends;
 ghost use Rattle.hn_world.specs.Waiting.{first_waiting};
 
 use crate::handle::Handle;

@@ -9,10 +9,10 @@ use Rattle.std.specs.Prelude.{Result}
 use Rattle.hn_lab.specs.Lab.{IsLabRun, IsLabOf, status_of}
 use Rattle.hn_lab.specs.Play.{IsPlay}
 use Rattle.hn_streams.specs.Refusal.{refused_line}
-use Rattle.hn_lab.specs.Stage.{Stage, Mail}
-use Rattle.hn_lab.specs.Told.{Told, told, bytes_of}
-use Rattle.hn_lab.specs.declared.end.End.{End}
-use Rattle.hn_lab.specs.declared.end.End.TheVariants.{Done, Refused, WireFailed}
+use Rattle.hn_play.specs.Stage.{Stage, Mail}
+use Rattle.hn_play.specs.Told.{Told, told, bytes_of}
+use Rattle.hn_play.specs.declared.end.End.{End}
+use Rattle.hn_play.specs.declared.end.End.TheVariants.{Done, Refused, WireFailed}
 use Rattle.hn_look.specs.Look.{IsLook, Looked, looked_status}
 use Rattle.hn_look.proofs.LastLines.{both}
 use Rattle.hn_look.proofs.Streams.{Appends-none}

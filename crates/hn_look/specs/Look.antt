@@ -5,7 +5,7 @@ use Rattle.hn_io.specs.declared.fault.IoFault.{IoFault}
 use Rattle.hn_io.specs.declared.fault.IoFault.TheVariants.{Failed, NoMemory}
 use Rattle.hn_lab.specs.Lab.{IsLabRun}
 use Rattle.hn_streams.specs.Refusal.{refused_line}
-use Rattle.hn_lab.specs.Stage.{Mail}
+use Rattle.hn_play.specs.Stage.{Mail}
 use Rattle.hn_base.specs.Name.{name_text}
 use Rattle.hn_calm.specs.Text.{IsCalmText}
 use Rattle.hn_table.specs.Table.{IsTableText}

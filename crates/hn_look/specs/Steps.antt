@@ -8,7 +8,7 @@ use Rattle.hn_base.specs.Name.{name_text}
 use Rattle.hn_base.specs.declared.addr.Addr.{Addr}
 use Rattle.hn_base.specs.declared.name.Name.{Name}
 use Rattle.hn_lab.specs.Line.{receiver}
-use Rattle.hn_lab.specs.Reports.{note_line}
+use Rattle.hn_play.specs.Notes.{note_line}
 use Rattle.hn_rules.specs.declared.done.Note.{Note}
 use Rattle.hn_rules.specs.declared.done.Publication.{Publication}
 use Rattle.hn_world.specs.declared.copies.MailCopy.{MailCopy}

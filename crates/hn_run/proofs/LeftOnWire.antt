@@ -2,12 +2,12 @@
 use Rattle.hn_base.proofs.Names.{◌≡◌, ◌∙◌, inl, inr, ℕ, List, Option, Some, refl, sym, subst, arith, IsWhole}
 use Rattle.hn_run.proofs.Names.{IsLabRun, IsNumberText, Parts, IsFormOf, Udp}
 use Rattle.hn_io.specs.declared.fault.IoFault.TheVariants.{NoMemory}
-use Rattle.hn_lab.specs.declared.end.End.{End}
-use Rattle.hn_lab.specs.declared.end.End.TheVariants as end
+use Rattle.hn_play.specs.declared.end.End.{End}
+use Rattle.hn_play.specs.declared.end.End.TheVariants as end
 use Rattle.hn_lab.specs.Breaking.{WireFailsAtACopy}
 use Rattle.hn_lab.specs.Lab.{status_of, IsLineWritten, IsLabOf, IsWholePlay, Plays}
-use Rattle.hn_lab.specs.Play.{begun, IsPlay}
-use Rattle.hn_lab.specs.Stage.{Ports}
+use Rattle.hn_play.specs.Stage.{begun, Ports}
+use Rattle.hn_lab.specs.Play.{IsPlay}
 use Rattle.hn_script.specs.Script.{IsScript}
 use Rattle.hn_script.specs.declared.script.Script.{Script}
 use Rattle.hn_streams.specs.Refusal.{refused_line}

@@ -5,8 +5,8 @@ use Rattle.hn_base.specs.Input.{IsWhole}
 use Rattle.hn_io.specs.declared.fault.IoFault.TheVariants.{NoMemory}
 use Rattle.hn_lab.specs.Breaking.{CopyFails}
 use Rattle.hn_lab.specs.Lab.{IsScriptPlay, IsUnread, StatusOfScript}
-use Rattle.hn_lab.specs.Play.{begun, IsCut}
-use Rattle.hn_lab.specs.Stage.{Stage, Mail, Ports}
+use Rattle.hn_play.specs.Stage.{begun, Stage, Mail, Ports}
+use Rattle.hn_lab.specs.Play.{IsCut}
 use Rattle.hn_lab.specs.Transcripts.{IsOfTranscript}
 use Rattle.hn_script.specs.Script.{IsScript}
 use Rattle.hn_script.specs.Soak.{soak_text}

@@ -15,7 +15,7 @@ ghost use Rattle.hn_told.specs.Told.{HostsAreToldApart};
 ghost use Rattle.hn_wire.specs.declared.datagram.Datagram.{Datagram};
 ghost use Rattle.hn_node.specs.Turns.{IsBounded};
 ghost use Rattle.hn_lab.specs.Lab.{IsLabRun};
-ghost use Rattle.hn_lab.specs.Stage.{Mail, Ports};
+ghost use Rattle.hn_play.specs.Stage.{Mail, Ports};
 ghost use Rattle.hn_lab.specs.Transcripts.{IsLabTranscript, TranscriptIsUnique};
 ghost use Rattle.hn_forms.specs.Form.{IsFormOf, AsksNothing, LeavesUnused, statuses_of};
 ghost use Rattle.hn_forms.specs.Outcome.{IsDecodeRun, IsWatchRun};

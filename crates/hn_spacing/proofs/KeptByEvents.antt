@@ -9,12 +9,12 @@ use Rattle.hn_world.specs.declared.event.WEvent.TheVariants as event
 use Rattle.hn_world.specs.Asked.{unless_runs}
 use Rattle.hn_world.specs.Receivers.{is_away, running_names}
 use Rattle.hn_world.specs.Refusal.{refusal}
-use Rattle.hn_lab.specs.declared.carrying.Carried.{Carried}
-use Rattle.hn_lab.specs.declared.carrying.Carried.TheVariants.{Same, Lost, Other}
+use Rattle.hn_play.specs.declared.carrying.Carried.{Carried}
+use Rattle.hn_play.specs.declared.carrying.Carried.TheVariants.{Same, Lost, Other}
 use Rattle.hn_lab.specs.Choosing.{MayHappen, MakesChoice, Chooses}
-use Rattle.hn_lab.specs.Delivery.{injection_for, Replaces, ComesTo, Conveys}
-use Rattle.hn_lab.specs.Events.{TreatmentEnds, CopyEnds, HasWaiting, Flow, Ticks, Passes, Round, Runs, drawn, is_lost}
-use Rattle.hn_lab.specs.Sending.{TickEnds}
+use Rattle.hn_play.specs.Delivery.{injection_for, Replaces, ComesTo, Conveys}
+use Rattle.hn_play.specs.Events.{TreatmentEnds, CopyEnds, HasWaiting, Flow, Ticks, Passes, Round, Runs, drawn, is_lost}
+use Rattle.hn_play.specs.Sending.{TickEnds}
 use Rattle.hn_lab.specs.Syncing.{Exchanges, SyncEnds}
 use Rattle.hn_spacing.proofs.InvariantsOfPlays.{IsInvariant}
 use Rattle.hn_spacing.proofs.KeptByProcesses.{Keeps, keeps_at, keeps_nothing, keeps_unless, keeps_then, keeps_each, keeps_until}

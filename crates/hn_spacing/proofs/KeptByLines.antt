@@ -11,16 +11,18 @@ use Rattle.hn_lab.specs.declared.report.About.{About}
 use Rattle.hn_lab.specs.declared.report.About.TheVariants as about
 use Rattle.hn_lab.specs.declared.report.Report.{Report}
 use Rattle.hn_lab.specs.declared.report.Report.TheVariants as report
-use Rattle.hn_lab.specs.AddressReports.{address_line}
+use Rattle.hn_report.specs.AddressLines.{address_line}
 use Rattle.hn_lab.specs.Choosing.{chosen_event, decided_event}
-use Rattle.hn_lab.specs.Line.{Noted, Delivered, Sets, OtherEnds, Follows, EndsAs, EndsBy, LineEnds, event_of, report_of, receiver, injection, seeded}
+use Rattle.hn_lab.specs.Line.{Noted, Delivered, OtherEnds, EndsAs, EndsBy, LineEnds, event_of, report_of, receiver, injection, seeded}
+use Rattle.hn_play.specs.Following.{Sets, Follows}
 use Rattle.hn_lab.specs.Play.{LineSaid}
-use Rattle.hn_lab.specs.PrefixReports.{use_line, prefix_line}
-use Rattle.hn_lab.specs.Report.{IsAbout, IsReport, ReportEnds, unless_report, unless_elects}
-use Rattle.hn_lab.specs.Reports.{note_line}
+use Rattle.hn_report.specs.PrefixReports.{use_line, prefix_line}
+use Rattle.hn_lab.specs.Report.{IsAbout, IsReport, ReportEnds, unless_report}
+use Rattle.hn_play.specs.Electing.{unless_elects}
+use Rattle.hn_play.specs.Notes.{note_line}
 use Rattle.hn_streams.specs.Refusal.{refused_line}
-use Rattle.hn_lab.specs.Tells.{TellsSome, Reports, note_lines}
-use Rattle.hn_lab.specs.UlaReports.{ula_line}
+use Rattle.hn_play.specs.Tells.{TellsSome, Reports, note_lines}
+use Rattle.hn_report.specs.UlaLines.{ula_line}
 use Rattle.hn_spacing.proofs.InvariantsOfPlays.{IsInvariant}
 use Rattle.hn_spacing.proofs.KeptByProcesses.{Keeps, keeps_at, keeps_nothing, keeps_unless, keeps_then}
 use Rattle.hn_spacing.proofs.KeptByEvents.{keeps_noting, keeps_event, keeps_delivery, keeps_flow, keeps_run, keeps_choice, keeps_sync}

@@ -1,7 +1,7 @@
 -- What is so before a process and stays so, whatever its end.
 use Rattle.hn_base.proofs.Names.{inl, inr, ℕ, zero, suc, List, [], ◌∷◌, Option, None, Some, sym, subst}
 use Rattle.hn_spacing.proofs.Names.{Stop, Refused, WireFailed, Cut, Nothing, Unless, ThenProcess, EachProcess, Stage}
-use Rattle.hn_lab.specs.Process.{Process, Times, Until}
+use Rattle.hn_play.specs.Process.{Process, Times, Until}
 
 module _ (Holds : Stage → Type 0) where
   abbrev pub Keeps : Process → Type 0

@@ -6,10 +6,10 @@ use Rattle.hn_spacing.proofs.Names.{Turns, Solicits, starting, Stage, TellsLines
 use Rattle.hn_advert.specs.Advert.{advert_bytes}
 use Rattle.hn_radv.specs.Sender.{started_sender}
 use Rattle.hn_script.specs.declared.line.Line.TheVariants as line
-use Rattle.hn_lab.specs.Senders.{sender_endpoints}
-use Rattle.hn_lab.specs.Sending.{IsAsked, IsDue, IsTurn, MayTurn, TurnEnds, IsSolicited, line_if, sending_now}
-use Rattle.hn_lab.specs.Stage.{telling}
-use Rattle.hn_lab.specs.Told.{told}
+use Rattle.hn_senders.specs.Senders.{sender_endpoints}
+use Rattle.hn_play.specs.Sending.{IsAsked, IsDue, IsTurn, MayTurn, TurnEnds, IsSolicited, line_if, sending_now}
+use Rattle.hn_play.specs.Stage.{telling}
+use Rattle.hn_play.specs.Told.{told}
 use Rattle.hn_spacing.proofs.KeptByProcesses.{Keeps, keeps_at, keeps_nothing, keeps_then, keeps_each}
 use Rattle.hn_spacing.proofs.InvariantsOfPlays.{IsInvariant}
 use Rattle.hn_spacing.proofs.NoRaLines.{AreOther, others_of_kind}

@@ -4,7 +4,7 @@ use Rattle.hn_base.proofs.Names.{cases_Bool, both_ways, not-false, and_parts, an
 use Rattle.hn_base.proofs.Names.{name_text}
 use Rattle.hn_spacing.proofs.Names.{position, slice_set, EpId, Name, PlainSender, Sending, Shape, sends_at, IsSenderAt}
 use Rattle.std.specs.Prelude.{nat_lt}
-use Rattle.hn_lab.specs.Senders.{sender_number, is_sender_of, without_sender, without_senders, with_sender}
+use Rattle.hn_senders.specs.Senders.{sender_number, is_sender_of, without_sender, without_senders, with_sender}
 use Rattle.hn_spacing.proofs.FirstThatPasses.{find-filter, find-write_failing, find-first, find-write_first, find-placed, find-placed_first}
 
 -- the sender of an endpoint, if it sends

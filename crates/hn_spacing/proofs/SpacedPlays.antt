@@ -2,8 +2,7 @@
 use Rattle.hn_base.proofs.Names.{ℕ, ◌^◌, ◌<◌, List, [], ◌∷◌, ⊤, AllByRecursion, recursion_from_All}
 use Rattle.hn_spacing.proofs.Names.{EpId, Name, Line, Stop, LinesDone, StopsAt, Stage, Told, BeginsSending}
 use Rattle.hn_base.specs.declared.version.Version.{Version}
-use Rattle.hn_lab.specs.Play.{begun}
-use Rattle.hn_lab.specs.Stage.{Route}
+use Rattle.hn_play.specs.Stage.{begun, Route}
 use Rattle.hn_spacing.specs.Spacing.{NoneBeginsSending, AreRasSpacedSince, RaLinesAreSpaced}
 use Rattle.hn_spacing.proofs.InvariantsOfPlays.{IsInvariant}
 use Rattle.hn_spacing.proofs.KeptByLines.{keeps_done, keeps_stopped}

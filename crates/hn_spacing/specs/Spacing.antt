@@ -8,11 +8,11 @@ use Rattle.hn_base.specs.declared.name.Name.{Name}
 use Rattle.hn_base.specs.declared.version.Version.{Version}
 use Rattle.hn_script.specs.declared.line.Line.{Line}
 use Rattle.hn_script.specs.declared.line.Line.TheVariants as line
-use Rattle.hn_lab.specs.declared.end.Stop.{Stop}
-use Rattle.hn_lab.specs.Play.{begun, LinesDone, StopsAt}
-use Rattle.hn_lab.specs.Sending.{ra_line}
-use Rattle.hn_lab.specs.Stage.{Stage, Route}
-use Rattle.hn_lab.specs.Told.{Told}
+use Rattle.hn_play.specs.declared.end.Stop.{Stop}
+use Rattle.hn_play.specs.Stage.{begun, Stage, Route}
+use Rattle.hn_lab.specs.Play.{LinesDone, StopsAt}
+use Rattle.hn_play.specs.Sending.{ra_line}
+use Rattle.hn_play.specs.Told.{Told}
 
 -- a line of text says that the endpoint sent a Router Advertisement at this moment
 abbrev pub IsRaOf : Name → EpId → ℕ → Told → Type 0

@@ -1,3 +1,4 @@
 pub mod Output
 pub mod Refusal
 pub mod Laws
+pub mod TextLines

@@ -1,6 +1,7 @@
 use Rattle.hn_base.proofs.Names.{Option, None, Some, sym, subst}
-use Rattle.hn_lab.proofs.Names.{WEvent, MayHappen, EventEnds, IsAnswered, stage_of}
-use Rattle.hn_lab.proofs.RunAnswers.{answered_as}
+use Rattle.hn_lab.proofs.Names.{WEvent, MayHappen, EventEnds, stage_of}
+use Rattle.hn_play.proofs.RunAnswers.{answered_as}
+use Rattle.hn_play.specs.Ended.{IsAnswered}
 use Rattle.hn_lab.proofs.choosing.may_happen.Goals as goal
 
 pub returns-in-Some : goal.returns-in-Some

@@ -1,6 +1,6 @@
 use Rattle.hn_base.proofs.Names.{name_text}
 use Rattle.hn_lab.proofs.Names.{member_named}
-use Rattle.hn_lab.proofs.TextReports.{member_of}
+use Rattle.hn_play.proofs.NamedRouters.{member_of}
 use Rattle.hn_lab.proofs.choosing.running.Goals as goal
 
 pub returns : goal.returns

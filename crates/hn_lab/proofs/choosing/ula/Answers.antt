@@ -2,7 +2,7 @@ use Rattle.hn_base.proofs.Names.{◌∙◌, [], ◌∷◌, Option, None, Some, i
 use Rattle.hn_lab.proofs.Names.{Decides, WEvent, Refused, decided_event, MayHappen, Leaves, OtherEnds, Stage, stage_of, stream_words, ula_line}
 use Rattle.hn_script.specs.declared.line.Line.TheVariants as line
 use Rattle.hn_lab.proofs.Choosings.{has_chosen, choice_refused, choice_left}
-use Rattle.hn_lab.proofs.RunAnswers.{no_memory, answer_on}
+use Rattle.hn_play.proofs.RunAnswers.{no_memory, answer_on}
 use Rattle.hn_lab.proofs.choosing.ula.Goals as goal
 
 pub returns-in-Some : goal.returns-in-Some

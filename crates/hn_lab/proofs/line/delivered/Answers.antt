@@ -1,8 +1,11 @@
 use Rattle.hn_base.proofs.Names.{rules, ◌≡◌, ◌∙◌, ℕ, List, [], Option, inl, refl, ap, subst, option_map}
-use Rattle.hn_lab.proofs.Names.{Name, NoMemory, CopyInfo, copy_at, Cut, DeliveryEnds, Delivers, OtherEnds, receiver, ThenProcess, stage_of, note_lines, TellsLines}
+use Rattle.hn_lab.proofs.Names.{Name, NoMemory, Cut, DeliveryEnds, OtherEnds, receiver, ThenProcess, stage_of, note_lines, TellsLines}
 use Rattle.hn_script.specs.declared.line.Line.TheVariants as line
-use Rattle.hn_lab.proofs.RunDeliveries.{delivered_left, receiver_is}
-use Rattle.hn_lab.proofs.RunStops.{leaving_on, starved, stopped_within, lines_left}
+use Rattle.hn_play.proofs.RunDeliveries.{delivered_left, receiver_is}
+use Rattle.hn_play.proofs.RunStops.{leaving_on, starved, stopped_within, lines_left}
+use Rattle.hn_play.specs.Delivery.{Delivers}
+use Rattle.hn_world.specs.Refusal.{copy_at}
+use Rattle.hn_world.specs.declared.copies.CopyInfo.{CopyInfo}
 use Rattle.hn_lab.proofs.line.delivered.Goals as goal
 
 pub returns-in_err-notes-clause-ends : goal.returns-in_err-notes-clause-ends

@@ -1,7 +1,7 @@
 use Rattle.hn_base.proofs.Names.{refl}
 use Rattle.hn_lab.proofs.Names.{Flow, OtherEnds, stage_of}
 use Rattle.hn_script.specs.declared.line.Line.TheVariants as line
-use Rattle.hn_lab.proofs.RunStops.{leaving_on, nothing_left, stopped_within}
+use Rattle.hn_play.proofs.RunStops.{leaving_on, nothing_left, stopped_within}
 use Rattle.hn_lab.proofs.line.flow_all.Goals as goal
 
 pub returns-in_err-flow-clause-ends : goal.returns-in_err-flow-clause-ends

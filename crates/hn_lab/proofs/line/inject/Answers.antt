@@ -1,8 +1,8 @@
 use Rattle.hn_base.proofs.Names.{◌∙◌, ℕ, List, Some, None, inl, ap, subst}
 use Rattle.hn_lab.proofs.Names.{WEvent, Refused, EventNotes, EventEnds, Leaves, OtherEnds, injection, ThenProcess, stage_of, note_lines, TellsLines}
 use Rattle.hn_script.specs.declared.line.Line.TheVariants as line
-use Rattle.hn_lab.proofs.RunAnswers.{no_memory, answer_on}
-use Rattle.hn_lab.proofs.RunStops.{lines_left}
+use Rattle.hn_play.proofs.RunAnswers.{no_memory, answer_on}
+use Rattle.hn_play.proofs.RunStops.{lines_left}
 use Rattle.hn_lab.proofs.line.inject.Goals as goal
 
 pub returns-in_err-notes : goal.returns-in_err-notes

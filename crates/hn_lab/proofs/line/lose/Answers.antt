@@ -1,7 +1,7 @@
 use Rattle.hn_base.proofs.Names.{refl}
 use Rattle.hn_lab.proofs.Names.{OtherEnds, stage_of, Playing}
 use Rattle.hn_script.specs.declared.line.Line.TheVariants as line
-use Rattle.hn_lab.proofs.RunStops.{nothing_left}
+use Rattle.hn_play.proofs.RunStops.{nothing_left}
 use Rattle.hn_lab.proofs.line.lose.Goals as goal
 
 pub returns : goal.returns

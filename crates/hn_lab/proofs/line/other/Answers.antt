@@ -1,7 +1,7 @@
 use Rattle.hn_base.proofs.Names.{inl, refl, sym, subst}
 use Rattle.hn_lab.proofs.Names.{Line, Leaves, EndsLeaving, OtherEnds, stage_of}
 use Rattle.hn_lab.proofs.LineEnds.{act_cut, acts}
-use Rattle.hn_lab.proofs.RunAnswers.{leaves_so}
+use Rattle.hn_play.proofs.RunAnswers.{leaves_so}
 use Rattle.hn_lab.proofs.line.other.Goals as goal
 
 pub returns-in-Seed-clause-ends : goal.returns-in-Seed-clause-ends

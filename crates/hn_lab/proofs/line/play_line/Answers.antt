@@ -1,7 +1,7 @@
 use Rattle.hn_base.proofs.Names.{◌≡◌, ◌∙◌, Option, None, IsSome, sym, subst, refl}
 use Rattle.hn_lab.proofs.Names.{Line, WEvent, Stop, EventEnds, Runs, LineEnds, EndsAs, EndsBy, Follows, event_of, report_of, ThenProcess, Stage, stage_of}
 use Rattle.hn_lab.proofs.OpenLines.{report_no_event, run_is_no_report}
-use Rattle.hn_lab.proofs.RunWrites.{writing_as}
+use Rattle.hn_play.proofs.RunWrites.{writing_as}
 use Rattle.hn_lab.proofs.line.play_line.Goals as goal
 
 -- a line that is no event

@@ -1,8 +1,8 @@
 use Rattle.hn_base.proofs.Names.{◌≡◌, ◌∙◌, Option, None, Some, IsSome, inl, sym, refl, subst}
 use Rattle.hn_lab.proofs.Names.{Report, EndsLeaving, EndsAs, OtherEnds, report_of, ReportEnds, stage_of}
 use Rattle.hn_lab.proofs.LineEnds.{report_answered}
-use Rattle.hn_lab.proofs.RunAnswers.{leaves_so}
-use Rattle.hn_lab.proofs.RunStops.{leaving_within}
+use Rattle.hn_play.proofs.RunAnswers.{leaves_so}
+use Rattle.hn_play.proofs.RunStops.{leaving_within}
 use Rattle.hn_lab.proofs.line.said.Goals as goal
 
 pub returns-in-Some-clause-ends : goal.returns-in-Some-clause-ends

@@ -1,7 +1,7 @@
 use Rattle.hn_base.proofs.Names.{◌≢◌, [], Err, refl, arith}
 use Rattle.hn_lab.proofs.Names.{Failed, Cut, EndsAs, report_of, stage_of}
-use Rattle.hn_lab.proofs.RunStops.{no_other_error}
-use Rattle.hn_lab.proofs.RunWrites.{lines_written, lines_cut, still_stopped, writing_on}
+use Rattle.hn_play.proofs.RunStops.{no_other_error}
+use Rattle.hn_play.proofs.RunWrites.{lines_written, lines_cut, still_stopped, writing_on}
 use Rattle.hn_lab.proofs.line.told.Goals as goal
 
 pub returns-in_err-lines-clause-ends : goal.returns-in_err-lines-clause-ends

@@ -1,7 +1,7 @@
 use Rattle.hn_lab.specs.declared.report.About.TheVariants as about
 use Rattle.hn_base.proofs.Names.{◌≡◌}
 use Rattle.hn_lab.proofs.Names.{string_bytes, IsAddressedLine, IsAdvertLine, IsAuditLine, IsElectLine, show_line, hash_line, IsUlasLine}
-use Rattle.hn_lab.proofs.TextReports.{told_line, told_lines}
+use Rattle.hn_lab.proofs.ReportLines.{told_line, told_lines}
 use Rattle.hn_lab.proofs.report.told_about.Goals as goal
 
 pub returns-in_ok-show_line-in-Show : goal.returns-in_ok-show_line-in-Show

@@ -1,10 +1,11 @@
 use Rattle.hn_base.proofs.Names.{Err, refl, ap}
-use Rattle.hn_lab.proofs.Names.{same_error, SeenWorld, Playing, Leaves, OtherEnds, stage_of, stream_words, SyncEnds}
+use Rattle.hn_lab.proofs.Names.{same_error, Playing, Leaves, OtherEnds, stage_of, stream_words, SyncEnds}
 use Rattle.hn_script.specs.declared.line.Line.TheVariants as line
-use Rattle.hn_lab.proofs.RunAnswers.{answer_on}
-use Rattle.hn_lab.proofs.RunEvents.{same_stage}
-use Rattle.hn_lab.proofs.RunStops.{nothing_left}
+use Rattle.hn_play.proofs.RunAnswers.{answer_on}
+use Rattle.hn_play.proofs.RunEvents.{same_stage}
+use Rattle.hn_play.proofs.RunStops.{nothing_left}
 use Rattle.hn_lab.proofs.RunSyncs.{not_first, not_synced}
+use Rattle.hn_world.specs.SeenWorld.{SeenWorld}
 use Rattle.hn_lab.proofs.syncing.sync.Goals as goal
 
 pub returns-in_err-sync : goal.returns-in_err-sync

@@ -1,7 +1,7 @@
 use Rattle.hn_base.proofs.Names.{◌≡◌, ◌⊎◌, ℕ, zero, suc, List, [], ◌∷◌, Option, None, inl, inr, refl, ap, sym, subst, lit<, arith, Appends}
 use Rattle.hn_run.proofs.Names.{world_parts, Contains, IsLabRun, Parts}
 use Rattle.hn_lab.specs.Lab.{HasDonePlay, HasRefusal, IsScriptPlay, IsUnread, StatusOfScript}
-use Rattle.hn_lab.specs.Stage.{Mail}
+use Rattle.hn_play.specs.Stage.{Mail}
 use Rattle.hn_script.specs.Soak.{soak_text}
 use Rattle.std.proofs.KnownBytes.{Appends-nil}
 use Rattle.hn_run.proofs.soak.soak.Goals as goal

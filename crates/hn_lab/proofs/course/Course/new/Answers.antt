@@ -1,6 +1,6 @@
 use Rattle.hn_base.proofs.Names.{Some, ap}
 use Rattle.hn_lab.proofs.Names.{Stage, Mail}
-use Rattle.hn_lab.specs.declared.end.End.TheVariants as end
+use Rattle.hn_play.specs.declared.end.End.TheVariants as end
 use Rattle.hn_lab.proofs.OpenPlays.{begun_course}
 use Rattle.hn_lab.proofs.course.Course.new.Goals as goal
 

@@ -1,7 +1,7 @@
 use Rattle.hn_base.proofs.Names.{Option, Some, refl}
 use Rattle.hn_lab.proofs.Names.{End}
 use Rattle.hn_lab.specs.Course.{script_of}
-use Rattle.hn_lab.specs.declared.end.End.TheVariants as end
+use Rattle.hn_play.specs.declared.end.End.TheVariants as end
 use Rattle.hn_lab.proofs.OpenPlays.{said_so, played_as}
 use Rattle.hn_lab.proofs.course.Course.refuse.Goals as goal
 

@@ -1,4 +1,0 @@
-use Rattle.hn_lab.proofs.playing.Playing.event.Goals as goal
-
-pub returns-clause-ends : goal.returns-clause-ends
-returns-clause-ends c route text = (c.in_ok-_notes._notes, c.in_ok-_notes.ensures.ends route text)

@@ -1,6 +1,0 @@
-use Rattle.hn_base.proofs.Names.{append_assoc}
-use Rattle.hn_lab.proofs.prefix_reports.use_line.Goals as goal
-
-pub returns : goal.returns
-returns c =
-    simp append_assoc (rw (← c.text-prefix.ensures, ← c.whole_seconds-valid.ensures, ← c.whole_seconds-preferred.ensures) c.format.ensures.ok)

@@ -1,7 +1,0 @@
-use Rattle.hn_base.proofs.Names.{append_assoc}
-use Rattle.hn_lab.proofs.reports.agreement_text.Goals as goal
-
-pub returns-in-Collide : goal.returns-in-Collide
-returns-in-Collide c =
-    rw c.in-Collide.is
-    (simp append_assoc (rw (← c.as_slice.ensures, ← c.as_slice-in-Collide.ensures) c.format-in-Collide.ensures.ok))

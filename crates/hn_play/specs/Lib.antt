@@ -1,0 +1,13 @@
+pub mod Told
+pub mod Stage
+pub mod Process
+pub mod Tells
+pub mod Carrying
+pub mod Delivery
+pub mod Sending
+pub mod Events
+pub mod Ended
+pub mod Writing
+pub mod Electing
+pub mod Following
+pub mod Notes

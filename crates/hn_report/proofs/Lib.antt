@@ -1,0 +1,4 @@
+mod Names
+mod TextReports
+mod PrefixTexts
+mod AddressTexts

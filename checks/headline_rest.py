@@ -46,7 +46,7 @@ SENTENCES = {
     'hn_world/specs/Replay.antt: Replays': '#### Of each moment, and of equal hashes',
     'hn_audit/specs/Reached.antt: IsRunning': '''#### Of sound, settled and quiet
 
-Two endpoints of one router are never on one link: law `hn_world/src/law.rt: always_attached`. An endpoint is on at most one link: `link_of` gives one link or none.''',
+Two endpoints of one router are never on one link: law `hn_world/src/laws.rt: always_attached`. An endpoint is on at most one link: `link_of` gives one link or none.''',
     'hn_plain/specs/Plain.antt: Uses': '''The number 32 is a limit of this program, and of no RFC. In `Uses` the variable `front` is any sorted list of outermost prefixes that come before d. If each such list has fewer than 32 elements, then fewer than 32 come before d.''',
 }
 """What stands before a definition, by its place."""

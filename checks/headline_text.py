@@ -109,7 +109,7 @@ DEFINITIONS = '''Each has a sentence before it. What it names is put in words af
 FIRST = (
     Part('''### At each moment
 
-`Always P w`: wherever the trace of `w` is cut into a past and a future, the past leads to a world `then`, and `P` holds of it. By law a trace leads to at most one world: `hn_world/src/law.rt: at_most_one_world`. So `then` is the world of that moment. Where no future is left it is `result.world` itself: that its own trace leads to it is the clause `replayed` of `run`.''', (
+`Always P w`: wherever the trace of `w` is cut into a past and a future, the past leads to a world `then`, and `P` holds of it. By law a trace leads to at most one world: `hn_world/src/laws.rt: at_most_one_world`. So `then` is the world of that moment. Where no future is left it is `result.world` itself: that its own trace leads to it is the clause `replayed` of `run`.''', (
         'hn_world/specs/Replay.antt: Always',)),
     Part('''### Claim 1: equal hashes
 

@@ -178,16 +178,16 @@ module _ (laws : UntilLaws) (until now : ℕ) (s : State) (router : IsRouter s) 
     pub lasts_over_tick : LastsOn until now s n
     lasts_over_tick =
         let run' = ran now s n done happened in
-        let rested : IsKeptAtRest s run'.after.state = laws.rests.restful now s run'.after router begun quiet changes_none run'.tick in
+        let kept_at_rest : IsKeptAtRest s run'.after.state = laws.rests.calm_tick now s run'.after router begun quiet changes_none run'.tick in
         let left : LeavesAges s run'.after.state = laws.leaves now s run'.after router begun quiet changes_none run'.tick in
         let moment : n.moment ≡ now = laws.moment now Tick s n done happened in
-        let id : n.id ≡ s.id = ap (λ (x : State). x.id) run'.is ∙ rested.id in
-        let number : n.number ≡ s.number = ap (λ (x : State). x.number) run'.is ∙ rested.number in
-        let own : n.own ≡ s.own = ap (λ (x : State). x.own) run'.is ∙ rested.own in
-        let reach : n.reach ≡ s.reach = ap (λ (x : State). x.reach) run'.is ∙ rested.reach in
+        let id : n.id ≡ s.id = ap (λ (x : State). x.id) run'.is ∙ kept_at_rest.id in
+        let number : n.number ≡ s.number = ap (λ (x : State). x.number) run'.is ∙ kept_at_rest.number in
+        let own : n.own ≡ s.own = ap (λ (x : State). x.own) run'.is ∙ kept_at_rest.own in
+        let reach : n.reach ≡ s.reach = ap (λ (x : State). x.reach) run'.is ∙ kept_at_rest.reach in
         let table : n.table.entries ≡ run'.after.state.table.entries = ap (λ (x : State). x.table.entries) run'.is in
         let known : (v : NodeId) → Contains s.reach v → entry_of n v ≡ entry_of (at_moment now s) v = λ v there.
-        entry_by n (at_moment now s) v id number own moment (ap (λ (list : List HeldNode). held list v.0) table ∙ rested.known v there) in
+        entry_by n (at_moment now s) v id number own moment (ap (λ (list : List HeldNode). held list v.0) table ∙ kept_at_rest.known v there) in
         let nodes : view_of n ≡ view_of (at_moment now s) =
         ap (filter_map (entry_of n)) reach
         ∙ entries_by n (at_moment now s) s.reach (All-weaker (Contains s.reach) (λ v. entry_of n v ≡ entry_of (at_moment now s) v) known s.reach (All-contains_itself s.reach)) in

@@ -19,7 +19,7 @@ pub record HeardLaws : Type 0 where
   pub interval : OwnIntervalIsDefault
   pub peers : CalmTickMovesPorts
 
--- ---- a steady event is a restful one
+-- ---- a steady event is a calm one
 
 pub calm_by : HeardLaws → (heard since : ℕ) (event : WEvent) (before after : Parts) (r : Member) → IsReplayed before → IsResting since before r → AreHeardSince heard before r
     → IsSteadyEvent heard since event before after r → IsCalmSinceCopies since event before after r
@@ -29,7 +29,7 @@ calm_by laws heard since (event.Tick name) before after r replays rest heard_sin
     let known = known_of laws.resting.calm.stay.worlds before r replays rest.runs rest.settled in
     let (soon, holds) = steady place x next is at reached in
     record {
-      uneventful = record {
+      undue = record {
         heard = none_has_expired laws.interval before r known x reached heard before.moment heard_since soon;
         lasting = holds.lasting;
         young = holds.young.young;
@@ -79,9 +79,9 @@ hears_by laws since (event.Tick name) words notes before between after replays s
     let sound : IsSoundMember before.moment x =
     All-contains (IsSoundMember before.moment) before.members x (laws.resting.calm.stay.worlds.sound before replays) (contains_at before.members does.place x acts.is_member) in
     one_hears before after does.place x n acts.is_member gives since r rest (λ reached q peer q_in peer_in.
-    let restful : IsCalmTick before.moment x.router n = calm does.place x next_x does.is_place at_x reached in
+    let calm_tick : IsCalmTick before.moment x.router n = calm does.place x next_x does.is_place at_x reached in
     let there : Contains run.after.state.ports q = subst (λ (s : State). Contains s.ports q) run.is q_in in
-    let moved = laws.peers before.moment x.router run.after sound.router sound.past restful.uneventful run.tick q there in
+    let moved = laws.peers before.moment x.router run.after sound.router sound.past calm_tick.undue run.tick q there in
     record {
       was = moved.was;
       there = moved.there;

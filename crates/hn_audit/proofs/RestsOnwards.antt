@@ -1,4 +1,4 @@
--- A settled and quiet router goes on resting over restful events.
+-- A settled and quiet router goes on resting over calm events.
 use Rattle.hn_base.proofs.Names.{◌≡◌, ◌∙◌, ◌⊎◌, ◌<◌, ◌≤◌, ◌-◌, ◌^◌, ◌↔◌, ℕ, zero, suc, Bool, true, false, List, [], ◌∷◌, ◌++◌, length, Some, None, Contains, slice_get, inl, inr, refl, sym, ap, subst}
 use Rattle.hn_base.proofs.Names.{arith, All, option_map, cases_eq, All-contains, same_Some, slice_get_within}
 use Rattle.hn_audit.proofs.Names.{IsTrue, slice_set, nothing_in, contains_at, Name, ArePorts, endpoints_of, AreAssignmentsUnchanged, Done, Note, Outgoing, State, HashIsOfLeaves, IsRouter, Running}

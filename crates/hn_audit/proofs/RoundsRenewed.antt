@@ -220,10 +220,10 @@ module _ (laws : RoundLaws) (start since place : ℕ) (before between after : Pa
       let stays : (k : ℕ) (mail : MailCopy) → slice_get before.copies k ≡ Some mail → slice_get after.copies k ≡ Some mail = λ k mail there.
       ap (λ (list : List MailCopy). slice_get list k) made_now ∙ front_stays before.copies new k mail there in
       let moved : IsReached before r m0 → (p : Port) → Contains n.ports p → HasMoved before.moment acts.done.sends m0.router.ports p = λ reached p p_in.
-      let restful : IsCalmTick before.moment m0.router n = calm a m0 next_x does.is_place at_x reached in
+      let calm_tick : IsCalmTick before.moment m0.router n = calm a m0 next_x does.is_place at_x reached in
       let there : Contains run.after.state.ports p = subst (λ (s : State). Contains s.ports p) run.is p_in in
       subst (λ (d : Done). HasMoved before.moment d.sends m0.router.ports p) (sym run.done_is)
-      (laws.heard.peers before.moment m0.router run.after sound.router sound.past restful.uneventful run.tick p there) in
+      (laws.heard.peers before.moment m0.router run.after sound.router sound.past calm_tick.undue run.tick p there) in
       let waits : IsReached after goes.next next_x → (p : Port) (send : Outgoing) → Contains acts.done.sends send → send.endpoint ≡ p.id
       → IsNew before after next_x p = λ x_in p send among at_p j y q peer at_j q_in node endpoint other link.
       let apart : j ≢ a = λ is. other (ap (λ (m : Member). m.router.id.0) (same_Some next_x y (sym at_x.is ∙ ap (slice_get after.members) (sym is) ∙ at_j))) in

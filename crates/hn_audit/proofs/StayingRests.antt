@@ -21,7 +21,7 @@ pub record RestLaws : Type 0 where
   pub rest_changes : RestChangesNoAssignment
   pub view : ViewOfLater
   pub used : UsedWhereAssigned
-  pub restful : CalmTick
+  pub calm_tick : CalmTick
 
 -- ---- wishes in two views
 
@@ -122,8 +122,8 @@ module _ (laws : RestLaws) (now : ℕ) (s : State) (router : IsRouter s) (begun 
         laws.rest_changes at is.wishes s.held ran rest.advertised router.well.pairs.assigned wished_at
         ((laws.advertised_later before at s.held.assigned rest.advertised later).0 rest.are_advertised) at_rest is.is_subroutine
 
-  pub rested : IsKeptAtRest s after.state
-  rested = laws.restful now s after router begun quiet changes_none tick
+  pub kept_at_rest : IsKeptAtRest s after.state
+  kept_at_rest = laws.calm_tick now s after router begun quiet changes_none tick
 
   -- ---- after it
 

@@ -14,7 +14,7 @@ use Rattle.hn_audit.specs.Staying.{QuietStays, QuietHomesStay, QuietHomesAlwaysS
 use Rattle.hn_audit.proofs.BridgeSets.{itself}
 use Rattle.hn_audit.proofs.BridgeWorlds.{WorldLaws, known_of}
 use Rattle.hn_audit.proofs.FrontWorlds.{replayed}
-use Rattle.hn_audit.proofs.StayingRests.{RestLaws, rested, rests_next}
+use Rattle.hn_audit.proofs.StayingRests.{RestLaws, kept_at_rest, rests_next}
 use Rattle.hn_audit.proofs.StayingSets.{IsKept, IsSeenAsBefore, AreSeenAsBefore, settled_now, quiet_now, kept_now}
 
 -- ---- an element in place of another
@@ -148,15 +148,15 @@ module _ (laws : StayLaws) (before after : Parts) (replays : IsReplayed before) 
         kept_now laws.rests.unique before after r next place here are self settled,
       )
 
-  -- a router of the set whose tick is restful is still
-  module _ (x : Member) (n : State) (done : Done) (reached : IsReached before r x) (happened : Happened before.moment Tick x.router n done) (restful : IsCalmTick before.moment x.router n) where
+  -- a router of the set whose tick is calm is still
+  module _ (x : Member) (n : State) (done : Done) (reached : IsReached before r x) (happened : Happened before.moment Tick x.router n done) (calm_tick : IsCalmTick before.moment x.router n) where
     pub x_still : IsSeenAsBefore x.router n
     x_still =
         let now = before.moment in
         let s = x.router in
         let sound = All-contains (IsSoundMember now) before.members x (laws.worlds.sound before replays) reached.runs.there in
         let run = ticked now s n done happened in
-        let used = restful.used in
+        let used = calm_tick.used in
         let seen : seen_by n ≡ seen_by run.after.state = ap seen_by run.is in
         let same : UseSame s run.after.state = record {
           one = used.one;
@@ -166,7 +166,7 @@ module _ (laws : StayLaws) (before after : Parts) (replays : IsReplayed before) 
           same = used.same;
         } in
         let rest = quiet x reached in
-        let was = rested laws.rests now s sound.router sound.past restful.uneventful rest run.after run.tick same in
+        let was = kept_at_rest laws.rests now s sound.router sound.past calm_tick.undue rest run.after run.tick same in
         let with_due : IsKeptAtRest s (record run.after.state { due = run.due }) = record {
           id = was.id;
           number = was.number;
@@ -186,10 +186,10 @@ module _ (laws : StayLaws) (before after : Parts) (replays : IsReplayed before) 
           known = left.known;
           used = used;
           assigned = left.assigned;
-          rests = rests_next laws.rests now s sound.router sound.past restful.uneventful rest run.after run.tick same n used left moment;
+          rests = rests_next laws.rests now s sound.router sound.past calm_tick.undue rest run.after run.tick same n used left moment;
         }
 
--- a router ticks, and if it is of the set, the tick is restful
+-- a router ticks, and if it is of the set, the tick is calm
 stays_tick : StayLaws → (name : Name) (words : List ℕ) (notes : List Note) (before between after : Parts) → IsReplayed before → after.members ≡ between.members
     → Does (event.Tick name) words notes before between → QuietStays (event.Tick name) before after
 stays_tick laws name words notes before between after replays same does place r next here runs settled quiet calm =

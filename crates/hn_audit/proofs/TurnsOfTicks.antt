@@ -57,9 +57,9 @@ sent_by laws since (event.Tick name) words notes before between after replays sa
     let sound : IsSoundMember before.moment x =
     All-contains (IsSoundMember before.moment) before.members x (laws.rounds.heard.resting.calm.stay.worlds.sound before replays) (contains_at before.members does.place x acts.is_member) in
     one_on before after does.place x next_x acts.is_member gives r (λ reached p p_in.
-    let restful : IsCalmTick before.moment x.router n = calm does.place x next_x does.is_place at_x reached in
+    let calm_tick : IsCalmTick before.moment x.router n = calm does.place x next_x does.is_place at_x reached in
     let there : Contains run.after.state.ports p = subst (λ (s : State). Contains s.ports p) run.is p_in in
-    let moved = laws.rounds.heard.peers before.moment x.router run.after sound.router sound.past restful.uneventful run.tick p there in (
+    let moved = laws.rounds.heard.peers before.moment x.router run.after sound.router sound.past calm_tick.undue run.tick p there in (
       moved.was,
       moved.there,
       elim moved.sent [

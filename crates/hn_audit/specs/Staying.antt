@@ -30,7 +30,7 @@ pub record IsMemberAt (place : ℕ) (before after : Parts) (m next : Member) : T
 -- A router's tick at that moment has no cause to change what it says or reaches, and it uses and wants afterwards what it
 -- did before.
 pub record IsCalmTick (now : ℕ) (before after : State) : Type 0 where
-  pub uneventful : IsKeptUndue now before
+  pub undue : IsKeptUndue now before
   pub used : UseSame before after
 
 -- ---- a delivery

@@ -4,14 +4,14 @@
 
 mod agreement;
 mod hash;
-mod law;
+mod laws;
 mod leaf;
 mod network_state;
 mod part;
 
 pub use agreement::{Agreement, agree};
 pub use hash::{h, same_hash};
-pub use law::{equal_hashes_agree_or_collide, hash_has_eight_bytes};
+pub use laws::{equal_hashes_agree_or_collide, hash_has_eight_bytes};
 pub use leaf::Leaf;
 pub use network_state::{network, network_of};
 pub use part::Part;

@@ -5,7 +5,7 @@
 mod adapters;
 mod draw;
 mod fault;
-mod law;
+mod laws;
 mod listed;
 mod memory;
 mod pcg;
@@ -15,7 +15,7 @@ mod source;
 pub use adapters::{ReaderSource, WriterSink};
 pub use draw::{Draw, Zeros, below};
 pub use fault::IoFault;
-pub use law::words_join;
+pub use laws::words_join;
 pub use listed::Listed;
 pub use memory::{Calls, MemSink, MemSource};
 pub use pcg::Pcg;

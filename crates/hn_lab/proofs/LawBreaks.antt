@@ -5,7 +5,7 @@ use Rattle.hn_lab.proofs.Names.{MakesChoice, Chooses, chosen_event, decided_even
 use Rattle.hn_lab.proofs.Names.{Flow, Ticks, Passes, Round, Runs, drawn, is_lost, IsKnownRoute, ResultsAreUnique, Noted, Delivered, Sets, OtherEnds, Follows, EndsAs, EndsBy, receiver}
 use Rattle.hn_lab.proofs.Names.{injection}
 use Rattle.hn_lab.proofs.Names.{event_of, report_of, LinesDone, Process, Nothing, Unless, ThenProcess, EachProcess, Times, Until, unless_report, IsReport, Report, MayTurn, TurnEnds, Turns}
-use Rattle.hn_lab.proofs.Names.{TickEnds, Solicits, Stage, Route, Mail, Ports, Exchanges, TellsLines, TellsSome, Reports, note_lines, ula_line}
+use Rattle.hn_lab.proofs.Names.{TickEnds, Solicits, Stage, Route, Mail, OverWire, Exchanges, TellsLines, TellsSome, Reports, note_lines, ula_line}
 use Rattle.hn_script.specs.declared.line.Line.TheVariants as line
 use Rattle.hn_world.specs.declared.event.WEvent.TheVariants as event
 use Rattle.hn_lab.specs.Breaking.{CopyFails, WireFailsAtACopy}
@@ -86,28 +86,28 @@ never_comes copy mail (Other bytes) notes p a h = never_replaces copy (injection
 record IsLeft (bytes : List ℕ) (before after : Route) : Type 0 where
   base : ℕ
   waiting : List Datagram
-  before_is : before ≡ Ports base (Some waiting)
+  before_is : before ≡ OverWire base (Some waiting)
   left : List Datagram
   left_is : (left ≡ waiting) ⊎ (left ≡ waiting ++ sent_from base bytes ∷ [])
-  after_is : after ≡ Ports base (Some left)
+  after_is : after ≡ OverWire base (Some left)
 
 is_left : (bytes : List ℕ) (before after : Route) → IsKnownRoute before → Breaks bytes before after → IsLeft bytes before after
 is_left bytes Mail after told h = absurd h
-is_left bytes (Ports base waiting) after told (waits, inl same, is) = record {
+is_left bytes (OverWire base waiting) after told (waits, inl same, is) = record {
   base = base;
   waiting = told.0;
-  before_is = ap (Ports base) told.1;
+  before_is = ap (OverWire base) told.1;
   left = told.0;
   left_is = inl refl;
-  after_is = is ∙ ap (Ports base) (same ∙ told.1);
+  after_is = is ∙ ap (OverWire base) (same ∙ told.1);
 }
-is_left bytes (Ports base waiting) after told (waits, inr sends, is) = record {
+is_left bytes (OverWire base waiting) after told (waits, inr sends, is) = record {
   base = base;
   waiting = told.0;
-  before_is = ap (Ports base) told.1;
+  before_is = ap (OverWire base) told.1;
   left = told.0 ++ sent_from base bytes ∷ [];
   left_is = inr refl;
-  after_is = is ∙ ap (Ports base) (tells_sent (sent_from base bytes) told.0 waits (subst (λ (x : Option (List Datagram)). Sends (sent_from base bytes) x waits) told.1 sends));
+  after_is = is ∙ ap (OverWire base) (tells_sent (sent_from base bytes) told.0 waits (subst (λ (x : Option (List Datagram)). Sends (sent_from base bytes) x waits) told.1 sends));
 }
 
 copy_fails : (copy : ℕ) (p a : Stage) → IsKnownRoute p.route → IsBroken copy (Some WireFailed) p a → CopyFails p a

@@ -1,6 +1,6 @@
 -- Where the wire tells what waits, a copy is carried to one thing.
 use Rattle.hn_base.proofs.Names.{◌≡◌, ◌∙◌, ◌+◌, ℕ, List, [], ◌∷◌, ◌++◌, Option, None, Some, refl, sym, ap, subst, slice_get, remove, same_Some, none-some}
-use Rattle.hn_lab.proofs.Names.{Datagram, Sends, Carried, Same, Lost, Other, Carries, IsKnownRoute, Route, Mail, Ports}
+use Rattle.hn_lab.proofs.Names.{Datagram, Sends, Carried, Same, Lost, Other, Carries, IsKnownRoute, Route, Mail, OverWire}
 use Rattle.hn_wire.specs.Wires.{Arrived, TakesAt, TakesOf, TakesFirst}
 use Rattle.hn_play.specs.Carrying.{IsCarried, CarriesOver}
 
@@ -78,15 +78,15 @@ told_over base bytes ds x waiting a told h = over base bytes ds x a (subst (λ (
 
 pub one_carriage : (bytes : List ℕ) (r a b : Route) (x y : Carried) → IsKnownRoute r → Carries bytes x r a → Carries bytes y r b → (x ≡ y) × (a ≡ b)
 one_carriage bytes Mail a b x y told h k = (h.0 ∙ sym k.0, h.1 ∙ sym k.1)
-one_carriage bytes (Ports base waiting) a b x y told h k =
+one_carriage bytes (OverWire base waiting) a b x y told h k =
     let first = told_over base bytes told.0 x waiting h.0 told.1 h.1 in
     let second = told_over base bytes told.0 y waiting k.0 told.1 k.1 in
     let one = one_over base bytes told.0 x y h.0 k.0 first second in
-    (one.0, h.2 ∙ ap (Ports base) one.1 ∙ sym k.2)
+    (one.0, h.2 ∙ ap (OverWire base) one.1 ∙ sym k.2)
 
 -- afterwards what waits is still known
 pub still_told : (bytes : List ℕ) (r a : Route) (x : Carried) → IsKnownRoute r → Carries bytes x r a → IsKnownRoute a
 still_told bytes Mail a x told h = subst IsKnownRoute (sym h.1) tt
-still_told bytes (Ports base waiting) a x told h =
+still_told bytes (OverWire base waiting) a x told h =
     let is = told_over base bytes told.0 x waiting h.0 told.1 h.1 in
     subst IsKnownRoute (sym h.2) (is.rest, is.after_is)

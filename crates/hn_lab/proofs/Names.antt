@@ -45,7 +45,7 @@ pub use Rattle.hn_play.specs.Following.{Follows, Sets}
 pub use Rattle.hn_play.specs.Process.{EachProcess, Nothing, Process, ThenProcess, Times, Unless, Until}
 pub use Rattle.hn_play.specs.Sending.{IsAsked, IsSolicited, IsTurn, MayTurn, Solicits, TickEnds, TurnEnds, Turns, drawing, ended_sending, ending_all, line_if, ra_line, sending_now, starting}
 pub use Rattle.hn_play.specs.Sending.{with_this}
-pub use Rattle.hn_play.specs.Stage.{Mail, Ports, Route, Stage, begun, route_of, stage_of, stream_words, telling}
+pub use Rattle.hn_play.specs.Stage.{Mail, OverWire, Route, Stage, begun, route_of, stage_of, stream_words, telling}
 pub use Rattle.hn_play.specs.Tells.{IsOneLine, Reports, TellsLines, TellsSome, note_lines}
 pub use Rattle.hn_play.specs.Told.{Told, bytes_of, told}
 pub use Rattle.hn_play.specs.Writing.{EndsAt, Gets}

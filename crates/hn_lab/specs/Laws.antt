@@ -20,7 +20,7 @@ use Rattle.hn_play.specs.declared.end.End.TheVariants as end
 use Rattle.hn_play.specs.declared.end.Stop.{Stop}
 use Rattle.hn_play.specs.Delivery.{EventNotes, DeliveryEnds}
 use Rattle.hn_lab.specs.Play.{IsPlay, IsCut, IsCutPlay}
-use Rattle.hn_play.specs.Stage.{Stage, Route, Mail, Ports}
+use Rattle.hn_play.specs.Stage.{Stage, Route, Mail, OverWire}
 use Rattle.hn_play.specs.Told.{Told}
 
 -- Bytes are at most one Router Advertisement.
@@ -43,7 +43,7 @@ pub record ResultsAreUnique : Type 0 where
 -- what copies come to is known: by mail, and over a wire that tells what waits
 abbrev pub IsKnownRoute : Route → Type 0
 IsKnownRoute Mail = ⊤
-IsKnownRoute (Ports base waiting) = (datagrams : List Datagram) × (waiting ≡ Some datagrams)
+IsKnownRoute (OverWire base waiting) = (datagrams : List Datagram) × (waiting ≡ Some datagrams)
 
 -- the wire did not end a play
 abbrev pub IsUnbroken : End → Type 0

@@ -10,8 +10,8 @@ ghost use Rattle.hn_play.specs.declared.end.End.TheVariants as ends;
 ghost use Rattle.hn_lab.specs.Course.{IsCourse, IsKeptSource, IsStoppedNext, opened_of, script_of};
 ghost use Rattle.hn_lab.specs.Open.{LineGoes, HasAdded, begun_play, is_plain, unless_begun};
 
-use crate::law::mail_delivers;
-use crate::line::play_line;
+use crate::laws::mail_delivers;
+use crate::play_line::play_line;
 use crate::of_line::report_of;
 use crate::text_so_far::TextSoFar;
 use hn_base::{NoMemory, Sequence, Version};

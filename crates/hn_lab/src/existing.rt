@@ -3,7 +3,7 @@
 ghost use Rattle.hn_lab.specs.Existing.{PlayExists, ScriptHasAPlay};
 ghost use Rattle.hn_lab.specs.Transcripts.{DoneOrRefused, TranscriptExists, TranscriptIsUnique, WrittenIsOfTranscript, PlayIsOfTranscript, LabIsOfTranscript};
 
-use crate::law::{at_most_one_play, cut_text_is_a_front};
+use crate::laws::{at_most_one_play, cut_text_is_a_front};
 use hn_addr::{choice_exists, chosen_addresses_fit, still_addresses_stay};
 use hn_advert::written_is_read;
 use hn_audit::{settled_and_quiet_is_sound, settled_see_each_other};

@@ -6,11 +6,11 @@ mod audit_report;
 mod choosing;
 mod course;
 mod existing;
-mod law;
-mod line;
+mod laws;
+mod play_line;
 mod of_line;
 mod open;
-mod plays;
+mod play_lines;
 mod report;
 mod scripts;
 mod set;
@@ -25,7 +25,7 @@ pub use existing::{
     written_is_of_transcript,
 };
 pub use hn_play::{End, note_line};
-pub use law::{
+pub use laws::{
     at_most_one_cut_play, at_most_one_play, broken_text_is_a_front, cut_text_is_a_front,
     events_keep_quiet, mail_delivers, run_keeps_calm, wire_fails_at_a_copy,
 };

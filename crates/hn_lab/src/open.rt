@@ -11,7 +11,7 @@ ghost use Rattle.hn_lab.specs.OpenTranscript.{IsOfItsTranscript, LabPlaysTheSour
 
 use crate::course::{Course, OpenFault};
 use crate::existing::written_is_of_transcript;
-use crate::law::mail_delivers;
+use crate::laws::mail_delivers;
 use hn_base::{NoMemory, Version};
 use hn_play::End;
 use hn_script::{

@@ -13,10 +13,10 @@ ghost use Rattle.hn_play.specs.Stage.{Mail as ByMail, route_of};
 ghost use Rattle.hn_lab.specs.Transcripts.{IsLabTranscript, AppendsTranscript};
 
 use crate::existing::{lab_is_of_transcript, play_is_of_transcript};
-use crate::law::at_most_one_play;
-use crate::plays::play_lines;
+use crate::laws::at_most_one_play;
+use crate::play_lines::play_lines;
 use hn_io::{IoFault, Sink, Source};
-use hn_play::{Carrier, End, Mail, Playing, Ports};
+use hn_play::{Carrier, End, Mail, Playing, OverWire};
 use hn_script::{
     ParseFault, Script, ScriptFault, fault_excludes_script, lines_are_of_version, parse,
     script_is_limited, script_is_unique,
@@ -157,7 +157,7 @@ fn play_script<K: Sink, W: Wire>(
 {
     match base {
         None => play_over(alloc, recorded, script, out, &Mail, &mut ()),
-        Some(base) => play_over(alloc, recorded, script, out, &Ports::new(base), wire),
+        Some(base) => play_over(alloc, recorded, script, out, &OverWire::new(base), wire),
     }
 }
 

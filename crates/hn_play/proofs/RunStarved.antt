@@ -4,7 +4,7 @@ use Rattle.hn_wire.specs.declared.datagram.Datagram.{Datagram}
 use Rattle.hn_wire.specs.Wires.{Arrived, Sends, TakesAt, arrived}
 use Rattle.hn_play.proofs.Names.{Carried, Other}
 use Rattle.hn_play.specs.Carrying.{CarriesOver, IsCarried, Starves, sent_from}
-use Rattle.hn_play.specs.Stage.{Ports}
+use Rattle.hn_play.specs.Stage.{OverWire}
 use Rattle.hn_play.specs.declared.carrying.Carried.TheVariants.{Same}
 
 -- what was taken is the bytes themselves, or others
@@ -17,7 +17,7 @@ what_came bytes got = elim (cases_Bool (bytes_eq got.bytes bytes)) [
 -- so the bytes were carried to something
 pub starved_after : (base : ℕ) (bytes : List ℕ) (before between after : Option (List Datagram)) (o : Option (ℕ × ℕ)) (x : ℕ × ℕ) (buf : List ℕ)
     → Sends (sent_from base bytes) before between → o ≡ Some x → TakesAt (base + 1) (arrived o buf) between after → IfSome o (λ (t : ℕ × ℕ). t.0 ≤ 65507)
-    → Starves bytes (Ports base before) (Ports base after)
+    → Starves bytes (OverWire base before) (OverWire base after)
 starved_after base bytes before between after o x buf sends is takes count =
     let got : Arrived = record { from = x.1; bytes = take x.0 buf } in
     let few : x.0 ≤ 65507 = subst (λ (p : Option (ℕ × ℕ)). IfSome p (λ (t : ℕ × ℕ). t.0 ≤ 65507)) is count in

@@ -6,7 +6,7 @@ use Rattle.hn_play.specs.declared.carrying.Carried.{Carried}
 use Rattle.hn_play.specs.declared.carrying.Carried.TheVariants.{Same, Lost, Other}
 use Rattle.hn_world.specs.declared.copies.MailCopy.{MailCopy}
 use Rattle.hn_world.specs.Refusal.{copy_at}
-use Rattle.hn_play.specs.Stage.{Stage, Route, Mail, Ports}
+use Rattle.hn_play.specs.Stage.{Stage, Route, Mail, OverWire}
 
 -- What came of bytes, by what was taken: they themselves, nothing, or others. The port that these came from does not
 -- count.
@@ -32,8 +32,8 @@ pub record CarriesOver (base : ℕ) (bytes : List ℕ) (carried : Carried) (befo
 -- bytes are carried: by mail they stay the same
 abbrev pub Carries : List ℕ → Carried → Route → Route → Type 0
 Carries bytes carried Mail after = (carried ≡ Same) × (after ≡ Mail)
-Carries bytes carried (Ports base waiting) after =
-    (waiting_after : Option (List Datagram)) × CarriesOver base bytes carried waiting waiting_after × (after ≡ Ports base waiting_after)
+Carries bytes carried (OverWire base waiting) after =
+    (waiting_after : Option (List Datagram)) × CarriesOver base bytes carried waiting waiting_after × (after ≡ OverWire base waiting_after)
 
 -- the sending fails: what waits is as before
 abbrev pub FailsSending : Option (List Datagram) → Option (List Datagram) → Type 0
@@ -50,8 +50,8 @@ FailsCarrying base bytes before after = FailsSending before after ⊎ FailsTakin
 -- the wire fails, and mail never does
 abbrev pub Breaks : List ℕ → Route → Route → Type 0
 Breaks bytes Mail after = ⊥
-Breaks bytes (Ports base waiting) after =
-    (waiting_after : Option (List Datagram)) × FailsCarrying base bytes waiting waiting_after × (after ≡ Ports base waiting_after)
+Breaks bytes (OverWire base waiting) after =
+    (waiting_after : Option (List Datagram)) × FailsCarrying base bytes waiting waiting_after × (after ≡ OverWire base waiting_after)
 
 -- Memory ends while bytes are carried. What waits is as before; or as where the wire fails, so that the bytes may wait behind it; or
 -- the bytes were carried to something.

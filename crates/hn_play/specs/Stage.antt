@@ -15,7 +15,7 @@ use Rattle.hn_world.specs.Replay.{empty_world}
 -- the wire, where it tells them.
 pub data Route : Type 0 where
   Mail : Route
-  Ports : (base : ℕ) (waiting : Option (List Datagram)) → Route
+  OverWire : (base : ℕ) (waiting : Option (List Datagram)) → Route
 
 -- its world, of a hundred copies how many `flow` loses, the random words that are to come, from place 0, how copies go,
 -- those that send Router Advertisements, and the text so far
@@ -38,7 +38,7 @@ stream_words s = option_map_or pcg_word s.seeded (λ _. 0)
 -- the route from a base, if there is one, over a wire on which these datagrams wait
 abbrev pub route_of : Option ℕ → Option (List Datagram) → Route
 route_of None waiting = Mail
-route_of (Some base) waiting = Ports base waiting
+route_of (Some base) waiting = OverWire base waiting
 
 -- a play over such a route, with this text so far
 abbrev pub stage_of : Playing → Route → List Told → Stage

@@ -4,7 +4,7 @@ ghost use Rattle.std.specs.Prelude.{◌≡◌, ◌≤◌, [], Err, length, IfOk,
 ghost use Rattle.hn_io.specs.Faults.{IsCaused};
 ghost use Rattle.hn_io.specs.declared.fault.IoFault.{IoFault};
 ghost use Rattle.hn_play.specs.Carrying.{Carries, Breaks, Starves};
-ghost use Rattle.hn_play.specs.Stage.{Ports as FromBase};
+ghost use Rattle.hn_play.specs.Stage.{OverWire as FromBase};
 
 use hn_base::{Bytes, NoMemory};
 use hn_io::IoFault;
@@ -121,11 +121,11 @@ impl Carrier<()> for Mail {
 
 /// Copies go over a wire, from a base, which is a port of at most 65,534, to the port after it. Contracts see the base.
 #[derive(Clone, Copy)]
-pub struct Ports {
+pub struct OverWire {
     base: u16,
 }
 
-impl Model for Ports {
+impl Model for OverWire {
     ghost use Rattle.std.specs.Prelude.{ℕ, ◌≤◌};
 
     ghost Value = { ℕ };
@@ -137,13 +137,13 @@ impl Model for Ports {
     ghost inverse = { λ base. record { base = base } };
 }
 
-impl Ports {
+impl OverWire {
     /// From this base. Never allocates.
-    pub fn new(base: u16) -> Ports
+    pub fn new(base: u16) -> OverWire
         requires { base ≤ 65534 }
         ensures { result ≡ base }
     {
-        Ports { base }
+        OverWire { base }
     }
 
     /// The base. Never allocates.
@@ -155,7 +155,7 @@ impl Ports {
     }
 }
 
-impl<W: Wire> Carrier<W> for Ports {
+impl<W: Wire> Carrier<W> for OverWire {
     ghost route = { λ base wire. FromBase base (W.waiting wire) };
 
     ghost faults = { W.faults };

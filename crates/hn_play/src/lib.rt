@@ -12,7 +12,7 @@ mod rounds;
 mod sending;
 mod stream;
 
-pub use carrying::{Carried, Carrier, Mail, Ports, Room};
+pub use carrying::{Carried, Carrier, Mail, OverWire, Room};
 pub use delivery::deliver;
 pub use electing::{unless_elects, unless_on};
 pub use end::{End, Stop, stopping};

@@ -6,7 +6,7 @@ use Rattle.hn_play.specs.declared.end.End.{End}
 use Rattle.hn_play.specs.declared.end.End.TheVariants as end
 use Rattle.hn_lab.specs.Breaking.{WireFailsAtACopy}
 use Rattle.hn_lab.specs.Lab.{status_of, IsLineWritten, IsLabOf, IsWholePlay, Plays}
-use Rattle.hn_play.specs.Stage.{begun, Ports}
+use Rattle.hn_play.specs.Stage.{begun, OverWire}
 use Rattle.hn_lab.specs.Play.{IsPlay}
 use Rattle.hn_script.specs.Script.{IsScript}
 use Rattle.hn_script.specs.declared.script.Script.{Script}
@@ -26,11 +26,11 @@ not_written line written (inr (inl h)) = let four = h.0 in omega (arith, four)
 not_written line written (inr (inr h)) = let six = h.0 in omega (arith, six)
 
 module _ (fails : WireFailsAtACopy) (base : ℕ) (waiting : List Datagram) (last : Option (List Datagram)) (left : Option (List ℕ)) (world : Option Parts) where
-  whole : (script : Script) (written : List ℕ) → IsWholePlay (Ports base (Some waiting)) (Ports base last) script 5 world written
+  whole : (script : Script) (written : List ℕ) → IsWholePlay (OverWire base (Some waiting)) (OverWire base last) script 5 world written
       → (bytes : List ℕ) → IsScript script bytes → IsWhole left bytes → LeavesOnWire base waiting left world last
   whole script written h bytes is_script are_whole =
-      let play = subst (λ (e : End). IsPlay script.lines e (begun (Ports base (Some waiting)) script.version) h.after) (wire_failed h.end h.status_is) h.play in
-      let failed = fails NoMemory script.lines (begun (Ports base (Some waiting)) script.version) h.after (waiting, refl) play in
+      let play = subst (λ (e : End). IsPlay script.lines e (begun (OverWire base (Some waiting)) script.version) h.after) (wire_failed h.end h.status_is) h.play in
+      let failed = fails NoMemory script.lines (begun (OverWire base (Some waiting)) script.version) h.after (waiting, refl) play in
       record {
         bytes = bytes;
         are_whole = are_whole;
@@ -44,16 +44,16 @@ module _ (fails : WireFailsAtACopy) (base : ℕ) (waiting : List Datagram) (last
         left_is = sym h.route_is;
       }
 
-  of_run : (before after : Option (List ℕ)) → IsLabRun (Ports base (Some waiting)) (Ports base last) left 5 world before after → LeavesOnWire base waiting left world last
+  of_run : (before after : Option (List ℕ)) → IsLabRun (OverWire base (Some waiting)) (OverWire base last) left 5 world before after → LeavesOnWire base waiting left world last
   of_run before after run = by_end run.comes
     where
-      by_play : (script : Script) → IsScript script run.bytes → Plays (Ports base (Some waiting)) (Ports base last) script 5 world run.written
+      by_play : (script : Script) → IsScript script run.bytes → Plays (OverWire base (Some waiting)) (OverWire base last) script 5 world run.written
           → LeavesOnWire base waiting left world last
       by_play script is (inl h) = whole script run.written h run.bytes is run.are_whole
       by_play script is (inr (inl h)) = let four = h.status_is in absurd (omega (arith, four))
       by_play script is (inr (inr h)) = let six = h.status_is in absurd (omega (arith, six))
 
-      by_end : IsLabOf (Ports base (Some waiting)) (Ports base last) run.bytes 5 world run.written → LeavesOnWire base waiting left world last
+      by_end : IsLabOf (OverWire base (Some waiting)) (OverWire base last) run.bytes 5 world run.written → LeavesOnWire base waiting left world last
       by_end (inl h) = absurd (not_written (refused_line h.fault.line h.fault.code) run.written h.written_is)
       by_end (inr (inl h)) = by_play h.script h.is_script h.plays
       by_end (inr (inr h)) = let six = h.0 in absurd (omega (arith, six))
@@ -67,9 +67,9 @@ one_base m n words h k =
 
 pub leaves_of_base : WireFailsAtACopy → (read base : ℕ) (waiting : List Datagram) (first last : Option (List Datagram)) (words : List (List ℕ)) (left : Option (List ℕ)) (status : ℕ)
     (world : Option Parts) (before after : Option (List ℕ)) → IsFormOf (Udp read) words → IsFormOf (Udp base) words → first ≡ Some waiting → status ≡ 5
-    → IsLabRun (Ports read first) (Ports read last) left status world before after → LeavesOnWire base waiting left world last
+    → IsLabRun (OverWire read first) (OverWire read last) left status world before after → LeavesOnWire base waiting left world last
 leaves_of_base fails read base waiting first last words left status world before after h asked tells five run =
     let same = one_base read base words h asked in
-    let there = subst (λ (b : ℕ). IsLabRun (Ports b first) (Ports b last) left status world before after) same run in
-    let told = subst (λ (o : Option (List Datagram)). IsLabRun (Ports base o) (Ports base last) left status world before after) tells there in
-    of_run fails base waiting last left world before after (subst (λ (s : ℕ). IsLabRun (Ports base (Some waiting)) (Ports base last) left s world before after) five told)
+    let there = subst (λ (b : ℕ). IsLabRun (OverWire b first) (OverWire b last) left status world before after) same run in
+    let told = subst (λ (o : Option (List Datagram)). IsLabRun (OverWire base o) (OverWire base last) left status world before after) tells there in
+    of_run fails base waiting last left world before after (subst (λ (s : ℕ). IsLabRun (OverWire base (Some waiting)) (OverWire base last) left s world before after) five told)

@@ -5,7 +5,7 @@ use Rattle.hn_base.specs.Input.{IsWhole}
 use Rattle.hn_io.specs.declared.fault.IoFault.TheVariants.{NoMemory}
 use Rattle.hn_lab.specs.Breaking.{CopyFails}
 use Rattle.hn_lab.specs.Lab.{IsScriptPlay, IsUnread, StatusOfScript}
-use Rattle.hn_play.specs.Stage.{begun, Stage, Mail, Ports}
+use Rattle.hn_play.specs.Stage.{begun, Stage, Mail, OverWire}
 use Rattle.hn_lab.specs.Play.{IsCut}
 use Rattle.hn_lab.specs.Transcripts.{IsOfTranscript}
 use Rattle.hn_script.specs.Script.{IsScript}
@@ -22,11 +22,11 @@ pub record LeavesOnWire (base : ℕ) (waiting : List Datagram) (left : Option (L
   pub script : Script
   pub is_script : IsScript script bytes
   pub at : Stage
-  pub played : IsCut NoMemory script.lines (begun (Ports base (Some waiting)) script.version) at
+  pub played : IsCut NoMemory script.lines (begun (OverWire base (Some waiting)) script.version) at
   pub end : Stage
   pub fails : CopyFails at end
   pub world_is : world ≡ Some end.world
-  pub left_is : end.route ≡ Ports base after
+  pub left_is : end.route ≡ OverWire base after
 
 -- What `soak` comes to: the play of its script by mail, or out of memory before it began. What is written is of the one
 -- transcript of the script.

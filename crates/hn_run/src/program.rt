@@ -15,7 +15,7 @@ ghost use Rattle.hn_told.specs.Told.{HostsAreToldApart};
 ghost use Rattle.hn_wire.specs.declared.datagram.Datagram.{Datagram};
 ghost use Rattle.hn_node.specs.Turns.{IsBounded};
 ghost use Rattle.hn_lab.specs.Lab.{IsLabRun};
-ghost use Rattle.hn_play.specs.Stage.{Mail, Ports};
+ghost use Rattle.hn_play.specs.Stage.{Mail, OverWire};
 ghost use Rattle.hn_lab.specs.Transcripts.{IsLabTranscript, TranscriptIsUnique};
 ghost use Rattle.hn_forms.specs.Form.{IsFormOf, AsksNothing, LeavesUnused, statuses_of};
 ghost use Rattle.hn_forms.specs.Outcome.{IsDecodeRun, IsWatchRun};
@@ -69,7 +69,7 @@ pub fn run<S: Source, K: Sink, W: Wire, C: Clock>(
     ensures lab { IsFormOf Form.Lab (map string_bytes words.now) → result.status ≢ SOURCE_FAILED
         → IsLabTranscript Mail (S.left src.old) result.status (world_parts result.world) (K.held out.old) (K.held out.new) }
     ensures udp { (base : ℕ) → IsFormOf (Form.Udp base) (map string_bytes words.now) → result.status ≢ SOURCE_FAILED
-        → IsLabRun (Ports base (W.waiting wire.old)) (Ports base (W.waiting wire.new)) (S.left src.old) result.status (world_parts result.world) (K.held out.old) (K.held out.new) }
+        → IsLabRun (OverWire base (W.waiting wire.old)) (OverWire base (W.waiting wire.new)) (S.left src.old) result.status (world_parts result.world) (K.held out.old) (K.held out.new) }
     ensures udp_leaves { (base : ℕ) (waiting : List Datagram) → IsFormOf (Form.Udp base) (map string_bytes words.now)
         → W.waiting wire.old ≡ Some waiting → result.status ≡ WIRE_FAILED
         → LeavesOnWire base waiting (S.left src.old) (world_parts result.world) (W.waiting wire.new) }

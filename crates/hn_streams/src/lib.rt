@@ -3,14 +3,14 @@
 #![tactic(auto)]
 
 mod input;
-mod law;
+mod laws;
 mod line_output;
 mod output;
 mod status;
 mod text_lines;
 
 pub use input::read_all;
-pub use law::pieces_append;
+pub use laws::pieces_append;
 pub use line_output::write_lines;
 pub use output::{write_piece, write_refusal};
 pub use status::{DONE, NO_MEMORY, REFUSED, SINK_FAILED, SOURCE_FAILED, WIRE_FAILED};

@@ -10,7 +10,7 @@ ghost use Rattle.hn_world.specs.Refusal.{copy_at};
 ghost use Rattle.hn_world.specs.Leaves.{Agrees, HasInfo};
 
 use crate::copies::CopyInfo;
-use crate::law::{agreement_exists, copies_have_receivers};
+use crate::laws::{agreement_exists, copies_have_receivers};
 use crate::world::World;
 use hn_base::{Name, NoMemory};
 use hn_hash::{Agreement, agree};

@@ -9,7 +9,7 @@ ghost use Rattle.hn_world.specs.Routed.{routed};
 ghost use Rattle.hn_world.specs.Step.{FitsAt, IsWorldEventInRange};
 
 use crate::event::WEvent;
-use crate::law::step_exists;
+use crate::laws::step_exists;
 use crate::parts::Parts;
 use hn_router::{event_in_range, event_of_bytes};
 

@@ -9,7 +9,7 @@ mod event;
 mod existing;
 mod finish;
 mod kept;
-mod law;
+mod laws;
 mod limits;
 mod links;
 mod mail;
@@ -26,7 +26,7 @@ mod world;
 
 pub use copies::{CopyInfo, MailCopy};
 pub use event::{Traced, WEvent, WorldFault};
-pub use law::{
+pub use laws::{
     agreement_exists, agreement_is_unique, always_attached, always_authentic, always_sound,
     always_within_limits, at_most_one_world, copies_are_bytes, each_event_is_a_step,
     each_event_is_entered, equal_hashes_always_agree, names_differ, router_is_within_limits,

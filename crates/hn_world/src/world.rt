@@ -14,7 +14,7 @@ ghost use Rattle.hn_world.specs.Replay.{empty_world, IsReplayed, IsSoundWorld};
 use crate::copies::Copies;
 use crate::event::{Effect, Traced, WEvent, WorldFault};
 use crate::kept::KeptTrace;
-use crate::law::{always_authentic, always_sound, names_differ};
+use crate::laws::{always_authentic, always_sound, names_differ};
 use crate::links::Links;
 use crate::member::{Member, Members};
 use crate::parts::Parts;

@@ -22,7 +22,7 @@ returns c =
       rest_changes = c.rest_changes_no_assignment.ensures;
       view = c.view_of_later.ensures;
       used = c.used_where_assigned.ensures;
-      restful = c.calm_tick.ensures;
+      calm_tick = c.calm_tick.ensures;
     } in
     quiet_stays (record { worlds = worlds; rests = rests; id = c.tick_keeps_the_identifier.ensures; moment = c.moment_is_now.ensures })
     c.quiet_homes_stay_over_deliveries.ensures

@@ -26,7 +26,7 @@ returns-clause-round c =
       rest_changes = c.rest_changes_no_assignment.ensures;
       view = c.view_of_later.ensures;
       used = c.used_where_assigned.ensures;
-      restful = c.calm_tick.ensures;
+      calm_tick = c.calm_tick.ensures;
     } in
     let pass : PassLaws = record {
       unique = c.usable_is_unique.ensures;
@@ -71,7 +71,7 @@ returns-clause-rounds c =
       rest_changes = c.rest_changes_no_assignment.ensures;
       view = c.view_of_later.ensures;
       used = c.used_where_assigned.ensures;
-      restful = c.calm_tick.ensures;
+      calm_tick = c.calm_tick.ensures;
     } in
     let pass : PassLaws = record {
       unique = c.usable_is_unique.ensures;

@@ -1,5 +1,0 @@
-use Rattle.hn_hash.proofs.SameOrCollide.{agree_or_collide}
-use Rattle.hn_hash.proofs.law.equal_hashes_agree_or_collide.Goals as goal
-
-pub returns : goal.returns
-returns c = agree_or_collide

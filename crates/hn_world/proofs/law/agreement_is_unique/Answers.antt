@@ -1,5 +1,0 @@
-use Rattle.hn_world.proofs.OneAgreement.{one_agreement}
-use Rattle.hn_world.proofs.law.agreement_is_unique.Goals as goal
-
-pub returns : goal.returns
-returns c = one_agreement

@@ -1,5 +1,0 @@
-use Rattle.hn_world.proofs.ReceiversOfCopies.{received}
-use Rattle.hn_world.proofs.law.copies_have_receivers.Goals as goal
-
-pub returns : goal.returns
-returns c = received

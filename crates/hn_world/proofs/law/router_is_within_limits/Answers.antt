@@ -1,5 +1,0 @@
-use Rattle.hn_world.proofs.WithinLimits.{router_within}
-use Rattle.hn_world.proofs.law.router_is_within_limits.Goals as goal
-
-pub returns : goal.returns
-returns c = router_within

@@ -28,6 +28,7 @@ pub mod Renewals
 pub mod RestRuns
 pub mod Rests
 pub mod SameAdvertised
+pub mod TakenInside
 pub mod SomeLists
 pub mod SomeRuns
 pub mod SomeTurns

@@ -1,8 +1,9 @@
 -- Advertised prefixes in order of their bits: those that begin inside a prefix follow one another.
-use Rattle.hn_base.proofs.Names.{◌≡◌, ◌↔◌, ◌∙◌, ℕ, ◌+◌, ◌-◌, ◌<◌, ◌≤◌, true, false, nat_lt, List, length, get_or, take, drop, Contains, sym, ap, subst, ⊎_elim, arith, IsPartitionPoint}
-use Rattle.hn_base.proofs.Names.{IsNonDecreasingBy, cases_lt, get_or-take, get_or-drop, length-take, PlainPrefix, IsInside}
+use Rattle.hn_base.proofs.Names.{◌≡◌, ◌↔◌, ◌∙◌, ℕ, ◌+◌, ◌-◌, ◌<◌, ◌≤◌, true, false, nat_lt, List, length, get_or, drop, min, ap, subst, ⊎_elim, arith, IsPartitionPoint}
+use Rattle.hn_base.proofs.Names.{IsNonDecreasingBy, cases_lt, get_or-drop, length-take, PlainPrefix, IsInside}
 use Rattle.hn_assign.proofs.Names.{length-drop, Advertised, IsFrontUpTo}
 use Rattle.std.proofs.Common.{ltb-true}
+use Rattle.hn_assign.specs.Between.{AreBetween}
 
 -- the first addresses before the place are below an address, and those from it on are not
 abbrev pub IsBelow : List Advertised → ℕ → ℕ → Type 0
@@ -40,13 +41,20 @@ module _ (adv : List Advertised) (outer : PlainPrefix) (first last start : ℕ) 
       absurd (omega arith))
       (cases_lt (k - start) is.count)
 
-  pub in_front : (a : Advertised) → Contains adv a → IsInside a.prefix.bits outer → Contains front a
-  in_front a (k, lt, at) inside =
-      let here = (from_to a.prefix.bits).0 inside in
-      let low = from_start k a lt at here.0 in
-      let high = to_end k a lt low at here.1 in
-      let place : start + (k - start) ≡ k = omega arith in
-      let size = length-take is.count (drop start adv) in
-      let found : Contains (take is.count (drop start adv)) a =
-      (k - start, omega (arith, rest), get_or-take is.count (drop start adv) (k - start) a high ∙ get_or-drop start adv (k - start) a ∙ ap (λ i. get_or adv i a) place ∙ at) in
-      subst (λ (xs : List Advertised). Contains xs a) (sym is.taken) found
+  -- so those that are inside stand between the start and the end
+  pub are_between : AreBetween adv outer start (start + length front)
+  are_between =
+      let size : length front ≡ min is.count (length (drop start adv)) = ap length is.taken ∙ length-take is.count (drop start adv) in
+      record {
+        order = omega arith;
+        within = omega (arith, rest, size);
+        each = λ k a lt at inside.
+            let here = (from_to a.prefix.bits).0 inside in
+            let low : start ≤ k = from_start k a lt at here.0 in
+            let high : k - start < is.count = to_end k a lt low at here.1 in
+            (low, omega (arith, rest, size));
+      }
+
+-- all stand between the first and the last
+pub all_between : (adv : List Advertised) (outer : PlainPrefix) (n : ℕ) → n ≡ length adv → AreBetween adv outer 0 n
+all_between adv outer n is = record { order = omega arith; within = omega arith; each = λ k a lt at inside. (omega arith, omega arith) }

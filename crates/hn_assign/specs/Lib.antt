@@ -1,6 +1,7 @@
 pub mod Advertised
 pub mod Alike
 pub mod Best
+pub mod Between
 pub mod Changed
 pub mod Due
 pub mod Facts

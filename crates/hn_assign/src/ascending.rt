@@ -90,7 +90,7 @@ pub(crate) fn wished<T: Paired + Copy>(
     requires wishes_ascending { IsAscending wish_pair wishes.now }
     ensures { IfOk result (λ kept. KeepsWished T.pair_of wishes.now items.now kept.items) }
 {
-    let mut kept = Vec::new(alloc);
+    let mut kept = Vec::with_capacity(alloc, items.len())?;
     for x in items {
         if is_wished(wishes, kept.len(), &x.pair()) {
             kept.push(*x)?;

@@ -1,10 +1,11 @@
 ghost use Rattle.std.specs.Prelude.{◌≡◌, ◌↔◌, ◌<◌, ◌≤◌, length, map, Contains, IsTrue, IfOk, OnOk, IfSome, IfNone};
 ghost use Rattle.std.specs.List.Sorted.{IsNonDecreasingBy};
 ghost use Rattle.hn_base.specs.Ascending.{HaveSame};
-ghost use Rattle.hn_base.specs.Prefix.{IsInside};
+ghost use Rattle.hn_base.specs.Prefix.{PlainPrefix, IsInside, Overlaps};
 ghost use Rattle.hn_data.specs.View.{plain_view, IsNetwork};
 ghost use Rattle.hn_prefix.specs.Free.{IsFirstFree};
 ghost use Rattle.hn_assign.specs.declared.assigned.Advertised.{Advertised};
+ghost use Rattle.hn_assign.specs.Between.{AreBetween};
 ghost use Rattle.hn_assign.specs.Best.{IsBestIfAny, IsValid, IsFreeIn, HasNoFree};
 ghost use Rattle.hn_assign.specs.Gathered.{AreAdvertised};
 ghost use Rattle.hn_assign.specs.Indexed.{IsFrontUpTo, short_of};
@@ -178,19 +179,41 @@ impl Index {
         self.advertised.as_slice()
     }
 
-    /// Some of them: at least those whose first address is inside a prefix.
-    fn starting_in(&self, outer: &Prefix) -> &[Advertised]
-        ensures part { (a : Advertised) → Contains result.now a → Contains self.now a }
-        ensures all { (a : Advertised) → Contains self.now a → IsInside a.prefix.bits outer.now → Contains result.now a }
+    /// The places of those whose first address is inside a prefix: they stand from the first one on, and before the second.
+    fn places_in(&self, outer: &Prefix) -> (usize, usize)
+        ensures { AreBetween self.now outer.now result.0 result.1 }
     {
         if self.advertised.len() <= FEW {
-            return &self.advertised;
+            return (0, self.advertised.len());
         }
         inside_is_range(outer);
         let first = outer.bits();
         let last = outer.last_address();
         let start = self.advertised.partition_point(|a| a.prefix.bits() < first);
-        front_to(&self.advertised[start..], last)
+        let front = front_to(&self.advertised[start..], last);
+        (start, start + front.len())
+    }
+
+    /// Some of them: at least those whose first address is inside a prefix.
+    fn starting_in(&self, outer: &Prefix) -> &[Advertised]
+        ensures part { (a : Advertised) → Contains result.now a → Contains self.now a }
+        ensures all { (a : Advertised) → Contains self.now a → IsInside a.prefix.bits outer.now → Contains result.now a }
+    {
+        let (start, end) = self.places_in(outer);
+        &self.advertised[start..end]
+    }
+
+    /// Some of their prefixes: at least those that overlap a prefix.
+    fn taken_in(&self, outer: &Prefix) -> &[Prefix]
+        requires { outer.now.len ≤ 64 }
+        ensures part { (t : PlainPrefix) → Contains result.now t → Contains (map (λ a. a.prefix) self.now) t }
+        ensures all { (a : Advertised) → Contains self.now a → Overlaps a.prefix outer.now → Contains result.now a.prefix }
+    {
+        if !self.short.is_empty() {
+            return &self.taken;
+        }
+        let (start, end) = self.places_in(outer);
+        &self.taken[start..end]
     }
 
     /// The best prefix inside a delegated prefix for the link of some endpoints, as `best` says. Never allocates.
@@ -230,6 +253,6 @@ impl Index {
             return None;
         }
         sub_prefixes_are_all(outer, len);
-        first_free(outer, start, &self.taken, len)
+        first_free(outer, start, self.taken_in(outer), len)
     }
 }

@@ -40,7 +40,9 @@ impl Ran {
         };
         let turn = scene.turn(&before, draw);
         add(&mut self.words, turn.word)?;
-        self.held.backoffs.set(&pair, &turn.slot.backoff)?;
+        self.held
+            .backoffs
+            .change(&pair, &before.backoff, &turn.slot.backoff)?;
         self.held
             .assigned
             .change(&pair, &before.assigned, &turn.slot.assigned)

@@ -5,7 +5,7 @@ use Rattle.hn_assign.proofs.ascending.wished.Goals as goal
 use Rattle.hn_assign.proofs.ascending.wished.Goals.{then-is_wished+in_ok-push, else-is_wished}
 
 pub loop-x-init : goal.loop-x-init
-loop-x-init g c = rw c.new-kept.ensures.items (keeping_none g.T.Paired.pair_of c.args.wishes.now c.args.items.now c.requires.ascending)
+loop-x-init g c = rw c.in_ok-kept.ensures.items (keeping_none g.T.Paired.pair_of c.args.wishes.now c.args.items.now c.requires.ascending)
 
 pub loop-x-preserved : goal.loop-x-preserved
 loop-x-preserved g c =

@@ -40,7 +40,7 @@ pub(crate) fn with_lifetimes(
     ensures prefixes { IfOk result (λ found. prefixes_of found.items ≡ prefixes.now) }
     ensures lifetimes { IfOk result (λ found. All (HasLifetimesIn list.now) found.items) }
 {
-    let mut found = Vec::new(alloc);
+    let mut found = Vec::with_capacity(alloc, prefixes.len())?;
     for prefix in prefixes {
         found.push(lifetimes(list, prefix))?;
     }

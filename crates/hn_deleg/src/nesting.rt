@@ -38,7 +38,7 @@ pub(crate) fn outermost(alloc: Global, ascending: &[Prefix]) -> Result<Vec<Prefi
     ensures { IfOk result (λ kept. AreOutermost ascending.now kept.items) }
 {
     prefixes_are_ranges();
-    let mut kept: Vec<Prefix> = Vec::new(alloc);
+    let mut kept = Vec::with_capacity(alloc, ascending.len())?;
     for p in ascending {
         if !is_covered(kept.as_slice(), p) {
             kept.push(*p)?;

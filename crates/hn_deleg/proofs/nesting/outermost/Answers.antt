@@ -5,7 +5,7 @@ use Rattle.hn_deleg.proofs.nesting.outermost.Goals as goal
 use Rattle.hn_deleg.proofs.nesting.outermost.Goals.{then-not-is_covered+in_ok-push, else-not-is_covered}
 
 pub loop-p-init : goal.loop-p-init
-loop-p-init c = rw c.new-kept.ensures.items filtered_none
+loop-p-init c = rw c.in_ok-kept.ensures.items filtered_none
 
 pub is_covered-requires : goal.is_covered-requires
 is_covered-requires c =

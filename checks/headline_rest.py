@@ -17,7 +17,8 @@ TYPES = (
     ('hn_world/src/member.rt', 'Member'),
     ('hn_rules/src/state.rt', 'State'),
     ('hn_data/src/view.rt', 'Entry'),
-    ('hn_assign/src/assigned.rt', 'Assigned Advertised'),
+    ('hn_pair/src/assigned.rt', 'Assigned'),
+    ('hn_assign/src/advertised.rt', 'Advertised'),
     ('hn_base/src/key.rt', 'Key'),
     ('hn_hash/src/leaf.rt', 'Leaf'),
 )

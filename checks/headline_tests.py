@@ -325,8 +325,8 @@ class OfThisRepository(unittest.TestCase):
             with mock.patch.dict(choice, {'hn_typed/specs/Item.antt: IsNowhere': 'nothing'}):
                 with self.assertRaisesRegex(NotFound, 'hn_typed/specs/Item.antt: IsNowhere, which a text of checks/ names'):
                     page(self.sources)
-        with mock.patch.object(headline_rest, 'TYPES', (('hn_assign/src/assigned.rt', 'Wish'),)):
-            with self.assertRaisesRegex(NotFound, 'hn_assign/src/assigned.rt: Wish, which a text of checks/ names'):
+        with mock.patch.object(headline_rest, 'TYPES', (('hn_pair/src/assigned.rt', 'Wish'),)):
+            with self.assertRaisesRegex(NotFound, 'hn_pair/src/assigned.rt: Wish, which a text of checks/ names'):
                 page(self.sources)
         field = headline_text.Field('a key', 'hn_base/src/key.rt: Key', 'priority length', 'nothing')
         with mock.patch.object(headline_text, 'FIELDS', (field,)):

@@ -97,9 +97,9 @@ FIELDS = (
           'node identifier; network state hash; the identifiers that it reaches, as it last worked them out'),
     Field('state `s`', 'hn_rules/src/state.rt: State', 'own held private ports',
           '`own.body`: its node data, as bytes; `held.assigned`: its assignments; and two that tell its posts'),
-    Field('assignment `c`', 'hn_assign/src/assigned.rt: Assigned', 'delegated endpoint prefix published',
+    Field('assignment `c`', 'hn_pair/src/assigned.rt: Assigned', 'delegated endpoint prefix published',
           'd; the post; the prefix that is assigned; the priority with which it is published, or `None`'),
-    Field('advertised `a`', 'hn_assign/src/assigned.rt: Advertised', 'prefix key',
+    Field('advertised `a`', 'hn_assign/src/advertised.rt: Advertised', 'prefix key',
           'the prefix; its priority, node and endpoint. Keys are compared in this order, and the greater one wins (RFC 7695, section 4.1; RFC 7788, section 6.3.1)'),
 )
 """The fields that the definitions of the first part use."""

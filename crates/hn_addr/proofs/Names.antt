@@ -10,7 +10,7 @@ pub use Rattle.hn_addr.specs.declared.choice.Choice.TheVariants.{Keep, Set}
 pub use Rattle.hn_addr.specs.declared.choosing.Choosing.{Choosing}
 pub use Rattle.hn_addr.specs.declared.others.Others.{Others}
 pub use Rattle.hn_addr.specs.declared.others.Taken.{Taken}
-pub use Rattle.hn_assign.specs.declared.assigned.Assigned.{Assigned}
+pub use Rattle.hn_pair.specs.declared.assigned.Assigned.{Assigned}
 pub use Rattle.hn_base.proofs.AscendingLists.{nothing_in}
 pub use Rattle.hn_base.proofs.Elements.{from_filter}
 pub use Rattle.hn_base.proofs.FrontOfList.{front_at}

@@ -1,6 +1,6 @@
 -- The least own address inside a prefix.
 use Rattle.std.specs.Prelude.{◌≡◌, ◌⊎◌, ℕ, ◌≤◌, List, Contains, Option, MatchOption}
-use Rattle.hn_assign.specs.declared.assigned.Assigned.{Assigned}
+use Rattle.hn_pair.specs.declared.assigned.Assigned.{Assigned}
 use Rattle.hn_base.specs.Prefix.{IsInside}
 use Rattle.hn_own.specs.Addresses.{OwnAddress}
 use Rattle.hn_addr.specs.Addresses.{IsLeastOwn}

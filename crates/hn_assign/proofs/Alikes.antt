@@ -7,8 +7,8 @@ use Rattle.hn_data.specs.View.{PlainView}
 use Rattle.hn_data.specs.declared.view.Entry.{Entry}
 use Rattle.hn_assign.specs.Alike.{AdvertisesAs, AdvertiseAlike}
 use Rattle.hn_assign.specs.Gathered.{IsOfOther, IsAdvertised, AreAdvertised}
-use Rattle.hn_assign.specs.declared.assigned.Advertised.{Advertised}
-use Rattle.hn_assign.specs.declared.assigned.Assigned.{Assigned}
+use Rattle.hn_assign.specs.declared.advertised.Advertised.{Advertised}
+use Rattle.hn_pair.specs.declared.assigned.Assigned.{Assigned}
 
 pub back : (x y : Entry) → AdvertisesAs x y → AdvertisesAs y x
 back x y same = record {

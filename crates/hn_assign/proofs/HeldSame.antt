@@ -8,7 +8,7 @@ use Rattle.std.proofs.lemmas.Bool.Decides.{Decides-and, Decides-like, Decides-eq
 use Rattle.hn_base.proofs.DecidingTests.{option_decided}
 use Rattle.hn_base.proofs.Prefixes.{is_one_prefix, prefix_decided}
 use Rattle.hn_data.specs.declared.said.AssignedPrefix.{AssignedPrefix}
-use Rattle.hn_assign.specs.declared.assigned.Assigned.{Assigned}
+use Rattle.hn_pair.specs.declared.assigned.Assigned.{Assigned}
 
 -- ---- when assignments are the same
 

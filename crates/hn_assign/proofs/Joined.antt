@@ -3,7 +3,7 @@ use Rattle.hn_base.proofs.Names.{◌≡◌, ◌↔◌, ◌⊎◌, ◌∙◌, ℕ
 use Rattle.hn_base.proofs.Names.{Contains-push, Contains-push_cases, Contains-append_left, Contains-append_right, Contains-append_cases}
 use Rattle.hn_base.specs.declared.ids.NodeId.{NodeId}
 use Rattle.hn_assign.specs.Renewed.{IsOfUnchanged}
-use Rattle.hn_assign.specs.declared.assigned.Advertised.{Advertised}
+use Rattle.hn_assign.specs.declared.advertised.Advertised.{Advertised}
 
 -- the first one that is left is added
 pub moved_more : (all rest both : List Advertised) (i : ℕ) (a : Advertised) → i < length rest → a ≡ get_or rest i a → all ++ drop i rest ≡ both → (all ++ a ∷ []) ++ drop (i + 1) rest ≡ both

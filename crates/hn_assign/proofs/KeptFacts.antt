@@ -9,7 +9,7 @@ use Rattle.hn_typed.specs.Item.{Assigned as AssignedItem}
 use Rattle.hn_typed.specs.Table.{InRange}
 use Rattle.hn_data.specs.Items.{IsReading}
 use Rattle.hn_base.proofs.Elements.{from_filter_map}
-use Rattle.hn_assign.specs.Facts.{IsInDelegated, IsAssignedPast, HasOwnPriority, IsOfLengthAt, IsAloneAt}
+use Rattle.hn_pair.specs.Facts.{IsInDelegated, IsAssignedPast, HasOwnPriority, IsOfLengthAt, IsAloneAt}
 use Rattle.hn_assign.proofs.AtPair.{pair_cases, is_had}
 
 -- of each element

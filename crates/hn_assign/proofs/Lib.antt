@@ -1,7 +1,6 @@
 mod Names
 pub mod AdvertisedBy
 mod Alikes
-pub mod AroundPair
 mod AtPair
 pub mod Awaited
 mod Bests
@@ -13,7 +12,6 @@ pub mod GrownByEach
 mod HeldSame
 pub mod Indexes
 pub mod Joined
-pub mod Keeping
 pub mod KeptFacts
 pub mod LaterMoments
 pub mod LeftInOrder
@@ -29,9 +27,7 @@ pub mod RestRuns
 pub mod Rests
 pub mod SameAdvertised
 pub mod TakenInside
-pub mod SomeLists
 pub mod SomeRuns
 pub mod SomeTurns
 pub mod IdleRuns
 pub mod Unchanged
-pub mod WishLemmas

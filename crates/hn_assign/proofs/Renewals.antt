@@ -11,8 +11,8 @@ use Rattle.hn_data.specs.declared.view.Entry.{Entry}
 use Rattle.hn_assign.specs.Changed.{HasNodeOf, SaidSame, AreChanged}
 use Rattle.hn_assign.specs.Gathered.{IsOfOther, IsOwn, AreAdvertised}
 use Rattle.hn_assign.specs.Renewed.{HasOfOthers, HasOfUnchanged, IsOfChanged, IsOfUnchanged, IsAnew}
-use Rattle.hn_assign.specs.declared.assigned.Advertised.{Advertised}
-use Rattle.hn_assign.specs.declared.assigned.Assigned.{Assigned}
+use Rattle.hn_assign.specs.declared.advertised.Advertised.{Advertised}
+use Rattle.hn_pair.specs.declared.assigned.Assigned.{Assigned}
 use Rattle.hn_assign.proofs.Alikes.{back, of_other}
 use Rattle.hn_assign.proofs.Names.{nothing_in}
 

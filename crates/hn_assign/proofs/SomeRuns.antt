@@ -5,10 +5,10 @@ use Rattle.hn_assign.proofs.Names.{Assigned, Wish, Backoff, Held, Ran, Pair, Slo
 use Rattle.hn_assign.proofs.Names.{scene_of, IsPairStep, AreSteps, IsSubroutine, with_marks}
 use Rattle.hn_base.proofs.FirstWords.{begins_next}
 use Rattle.hn_assign.specs.Laws.{SubroutineHasAResult, SubroutineHasADueRun}
+use Rattle.hn_pair.specs.Laws.{KeptExists, UpdatedExists}
 use Rattle.hn_assign.proofs.AtPair.{has_some}
 use Rattle.hn_assign.proofs.KeptFacts.{all_each}
 use Rattle.hn_assign.proofs.OneResult.{IsInOrder, step_in_order}
-use Rattle.hn_assign.proofs.SomeLists.{some_kept, some_updated}
 use Rattle.hn_assign.proofs.SomeTurns.{WithinIsNotShorter, IsUpTo, IsOfPair, some_turn}
 use Rattle.hn_assign.proofs.Unchanged.{due_backoff}
 
@@ -29,7 +29,11 @@ record IsProper (wish : Wish) : Type 0 where
   fits : IsFitting wish
   valid : IsPrefix wish.delegated
 
-module _ (exists : AdvertisedExists) (free_or_full : FreeOrFull) (inside_are : InsideAreSubPrefixes) (not_shorter : WithinIsNotShorter) (view : PlainView) (stream : ℕ → ℕ) where
+-- the lists that cannot be missing
+abbrev HasLists : Type 0
+HasLists = (KeptExists assigned_pair × KeptExists backoff_pair) × (UpdatedExists assigned_pair × UpdatedExists backoff_pair)
+
+module _ (exists : AdvertisedExists) (lists : HasLists) (free_or_full : FreeOrFull) (inside_are : InsideAreSubPrefixes) (not_shorter : WithinIsNotShorter) (view : PlainView) (stream : ℕ → ℕ) where
   some_step : (wish : Wish) (before : Ran) → IsProper wish → IsInOrder before → Begins before.words stream
       → Some! (λ (after : Ran). (words : List ℕ) × IsPairStep view wish words before after × Begins after.words stream)
   some_step wish before good up begins =
@@ -43,8 +47,8 @@ module _ (exists : AdvertisedExists) (free_or_full : FreeOrFull) (inside_are : I
         backoff = has_own backoff_pair pair before.held.backoffs backoff.0 backoff.1;
       } in
       some_then (some_turn (scene_of view wish adv.0) (stream (length before.words)) free_or_full inside_are not_shorter good.valid good.fits.at_most old of_pair) (λ t out.
-      some_then (some_updated assigned_pair pair t.0.assigned before.held.assigned up.assigned out.of_pair.assigned) (λ xs xs_are.
-      some_then (some_updated backoff_pair pair t.0.backoff before.held.backoffs up.backoffs out.of_pair.backoff) (λ ys ys_are none.
+      some_then (lists.1.0 pair t.0.assigned before.held.assigned up.assigned out.of_pair.assigned) (λ xs xs_are.
+      some_then (lists.1.1 pair t.0.backoff before.held.backoffs up.backoffs out.of_pair.backoff) (λ ys ys_are none.
       none (record { held = record { assigned = xs; backoffs = ys }; words = before.words ++ t.1 }) (
         t.1,
         record {
@@ -72,8 +76,8 @@ module _ (exists : AdvertisedExists) (free_or_full : FreeOrFull) (inside_are : I
   some_run : (wishes : List Wish) (held : Held) → IsAscending assigned_pair held.assigned → IsAscending backoff_pair held.backoffs → ((wish : Wish) → Contains wishes wish → IsProper wish)
       → Some! (λ (ran : Ran). IsSubroutine view wishes held ran × Begins ran.words stream)
   some_run wishes held up ups good =
-      some_then (some_kept assigned_pair wishes held.assigned up) (λ xs xs_are.
-      some_then (some_kept backoff_pair wishes held.backoffs ups) (λ ys ys_are.
+      some_then (lists.0.0 wishes held.assigned up) (λ xs xs_are.
+      some_then (lists.0.1 wishes held.backoffs ups) (λ ys ys_are.
       let begun : Ran = record { held = record { assigned = xs; backoffs = ys }; words = [] } in
       some_then (some_steps wishes begun good (record { assigned = xs_are.ascending; backoffs = ys_are.ascending }) (λ i within. absurd (omega (arith, within)))) (λ last steps none.
       none (with_marks view.now last) (
@@ -110,9 +114,9 @@ module _ (exists : AdvertisedExists) (free_or_full : FreeOrFull) (inside_are : I
 all_proper : (wishes : List Wish) → All IsFitting wishes → All (λ wish. IsPrefix wish.delegated) wishes → (wish : Wish) → Contains wishes wish → IsProper wish
 all_proper wishes fits valid wish h = record { fits = all_each IsFitting wishes fits wish h; valid = all_each (λ (w : Wish). IsPrefix w.delegated) wishes valid wish h }
 
-module _ (exists : AdvertisedExists) (free_or_full : FreeOrFull) (inside_are : InsideAreSubPrefixes) (not_shorter : WithinIsNotShorter) where
+module _ (exists : AdvertisedExists) (lists : HasLists) (free_or_full : FreeOrFull) (inside_are : InsideAreSubPrefixes) (not_shorter : WithinIsNotShorter) where
   pub some_result : SubroutineHasAResult
-  some_result view wishes held stream up ups fits valid = some_run exists free_or_full inside_are not_shorter view stream wishes held up ups (all_proper wishes fits valid)
+  some_result view wishes held stream up ups fits valid = some_run exists lists free_or_full inside_are not_shorter view stream wishes held up ups (all_proper wishes fits valid)
 
   pub some_due_run : SubroutineHasADueRun
-  some_due_run view wishes assigned stream ups up fits valid = some_due exists free_or_full inside_are not_shorter view stream wishes assigned ups up (all_proper wishes fits valid)
+  some_due_run view wishes assigned stream ups up fits valid = some_due exists lists free_or_full inside_are not_shorter view stream wishes assigned ups up (all_proper wishes fits valid)

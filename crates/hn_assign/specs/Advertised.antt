@@ -7,7 +7,7 @@ use Rattle.hn_base.specs.Key.{key_cmp}
 use Rattle.hn_base.specs.declared.ids.NodeId.{NodeId}
 use Rattle.hn_base.specs.declared.ids.EpId.{EpId}
 use Rattle.hn_base.specs.Prefix.{prefix_cmp}
-use Rattle.hn_assign.specs.declared.assigned.Advertised.{Advertised}
+use Rattle.hn_assign.specs.declared.advertised.Advertised.{Advertised}
 
 -- the endpoints of one link, as a router knows them: each with its node
 abbrev pub LinkEndpoints : Type 0

@@ -4,8 +4,8 @@ use Rattle.std.specs.declared.cmp.Ordering.TheVariants.{Less}
 use Rattle.hn_base.specs.Key.{IsAbove}
 use Rattle.hn_base.specs.Prefix.{PlainPrefix, IsWithin, Overlaps}
 use Rattle.hn_prefix.specs.Free.{IsPrefixInside}
-use Rattle.hn_assign.specs.declared.assigned.Advertised.{Advertised}
-use Rattle.hn_assign.specs.declared.assigned.Assigned.{Assigned}
+use Rattle.hn_assign.specs.declared.advertised.Advertised.{Advertised}
+use Rattle.hn_pair.specs.declared.assigned.Assigned.{Assigned}
 use Rattle.hn_assign.specs.Advertised.{LinkEndpoints, key_of, IsAdvertisedOnLink, advertised_cmp}
 
 -- another node advertises it on the link, inside the delegated prefix d

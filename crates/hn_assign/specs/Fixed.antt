@@ -1,14 +1,14 @@
 -- When the assignment subroutine leaves all assignments as they are.
 use Rattle.std.specs.Prelude.{◌≡◌, ◌↔◌, ℕ, false, List, Option, None, Contains, map}
 use Rattle.hn_data.specs.View.{PlainView}
-use Rattle.hn_assign.specs.declared.assigned.Advertised.{Advertised}
-use Rattle.hn_assign.specs.declared.assigned.Assigned.{Assigned}
-use Rattle.hn_assign.specs.declared.assigned.Wish.{Wish}
-use Rattle.hn_assign.specs.declared.backoff.Backoff.{Backoff}
-use Rattle.hn_assign.specs.declared.held.Held.{Held}
-use Rattle.hn_assign.specs.declared.held.Ran.{Ran}
+use Rattle.hn_assign.specs.declared.advertised.Advertised.{Advertised}
+use Rattle.hn_pair.specs.declared.assigned.Assigned.{Assigned}
+use Rattle.hn_pair.specs.declared.assigned.Wish.{Wish}
+use Rattle.hn_pair.specs.declared.backoff.Backoff.{Backoff}
+use Rattle.hn_pair.specs.declared.held.Held.{Held}
+use Rattle.hn_assign.specs.declared.ran.Ran.{Ran}
 use Rattle.hn_base.specs.Ascending.{HasAt}
-use Rattle.hn_assign.specs.Pair.{assigned_pair, wish_pair}
+use Rattle.hn_pair.specs.Pair.{assigned_pair, wish_pair}
 use Rattle.hn_assign.specs.Rest.{IsAtRest}
 use Rattle.hn_assign.specs.Subroutine.{IsSubroutine}
 

@@ -5,8 +5,8 @@ use Rattle.hn_base.specs.Prefix.{PlainPrefix}
 use Rattle.hn_data.specs.Said.{HasAssigned, HasVersion}
 use Rattle.hn_data.specs.View.{PlainView}
 use Rattle.hn_data.specs.declared.view.Entry.{Entry}
-use Rattle.hn_assign.specs.declared.assigned.Advertised.{Advertised}
-use Rattle.hn_assign.specs.declared.assigned.Assigned.{Assigned}
+use Rattle.hn_assign.specs.declared.advertised.Advertised.{Advertised}
+use Rattle.hn_pair.specs.declared.assigned.Assigned.{Assigned}
 use Rattle.hn_assign.specs.Advertised.{key_of}
 
 -- the data of a node have it as an Assigned-Prefix

@@ -6,21 +6,21 @@ use Rattle.hn_base.specs.Words.{Begins}
 use Rattle.hn_data.specs.Later.{IsLater}
 use Rattle.hn_base.specs.declared.ids.EpId.{EpId}
 use Rattle.hn_data.specs.View.{PlainView}
-use Rattle.hn_assign.specs.declared.assigned.Advertised.{Advertised}
-use Rattle.hn_assign.specs.declared.assigned.Assigned.{Assigned}
-use Rattle.hn_assign.specs.declared.assigned.Wish.{Wish}
-use Rattle.hn_assign.specs.declared.held.Held.{Held}
-use Rattle.hn_assign.specs.declared.held.Ran.{Ran}
-use Rattle.hn_assign.specs.Due.{IsHeldDue}
+use Rattle.hn_assign.specs.declared.advertised.Advertised.{Advertised}
+use Rattle.hn_pair.specs.declared.assigned.Assigned.{Assigned}
+use Rattle.hn_pair.specs.declared.assigned.Wish.{Wish}
+use Rattle.hn_pair.specs.declared.held.Held.{Held}
+use Rattle.hn_assign.specs.declared.ran.Ran.{Ran}
+use Rattle.hn_pair.specs.Due.{IsHeldDue}
 use Rattle.hn_base.specs.Exists.{Some! }
 use Rattle.hn_prefix.specs.Free.{IsFirstFree}
 use Rattle.hn_assign.specs.Advertised.{LinkEndpoints}
 use Rattle.hn_assign.specs.Best.{IsBestIfAny, IsValid, HasNoFree}
-use Rattle.hn_assign.specs.Facts.{IsFitting, IsInDelegated, HasOwnPriority, IsAssignedPast, IsSoonDue, IsOfLengthAt, IsAloneAt}
+use Rattle.hn_pair.specs.Facts.{IsFitting, IsInDelegated, HasOwnPriority, IsAssignedPast, IsSoonDue, IsOfLengthAt, IsAloneAt}
 use Rattle.hn_assign.specs.Fixed.{AreAssignmentsUnchanged, AreDue, AreAtRest, IsDueRun}
 use Rattle.hn_assign.specs.Gathered.{AreAdvertised}
-use Rattle.hn_assign.specs.Marks.{marked_applied}
-use Rattle.hn_assign.specs.Pair.{IsAscending, IsWished, assigned_pair, backoff_pair, wish_pair}
+use Rattle.hn_pair.specs.Marks.{marked_applied}
+use Rattle.hn_pair.specs.Pair.{IsAscending, IsWished, assigned_pair, backoff_pair, wish_pair}
 use Rattle.hn_assign.specs.Rest.{IsAtRest, IsWantedNoMore}
 use Rattle.hn_assign.specs.Scene.{PlainScene, IsBestFor}
 use Rattle.hn_assign.specs.Step.{IsPairStep}

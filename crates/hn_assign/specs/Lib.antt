@@ -3,15 +3,11 @@ pub mod Alike
 pub mod Best
 pub mod Between
 pub mod Changed
-pub mod Due
-pub mod Facts
 pub mod Fixed
 pub mod Gathered
 pub mod Indexed
 pub mod Laws
 pub mod Lines
-pub mod Marks
-pub mod Pair
 pub mod Renewed
 pub mod Rest
 pub mod Scene

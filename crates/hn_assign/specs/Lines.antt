@@ -2,8 +2,8 @@
 -- section 4.1). The first line is in Unassigned.
 use Rattle.std.specs.Prelude.{◌≡◌, ℕ, ◌⊎◌, List, [], Option, None, Some}
 use Rattle.hn_base.specs.Key.{IsAbove}
-use Rattle.hn_assign.specs.declared.assigned.Advertised.{Advertised}
-use Rattle.hn_assign.specs.declared.assigned.Assigned.{Assigned}
+use Rattle.hn_assign.specs.declared.advertised.Advertised.{Advertised}
+use Rattle.hn_pair.specs.declared.assigned.Assigned.{Assigned}
 use Rattle.hn_assign.specs.declared.slot.Slot.{Slot}
 use Rattle.hn_assign.specs.Advertised.{key_of}
 use Rattle.hn_assign.specs.Scene.{PlainScene, IsBestFor, IsValidFor, new_assigned}

@@ -6,8 +6,8 @@ use Rattle.hn_base.specs.declared.ids.NodeId.{NodeId}
 use Rattle.hn_data.specs.View.{PlainView, ids_of}
 use Rattle.hn_data.specs.declared.view.Entry.{Entry}
 use Rattle.hn_assign.specs.Gathered.{IsOfOther, IsOwn, AreAdvertised}
-use Rattle.hn_assign.specs.declared.assigned.Advertised.{Advertised}
-use Rattle.hn_assign.specs.declared.assigned.Assigned.{Assigned}
+use Rattle.hn_assign.specs.declared.advertised.Advertised.{Advertised}
+use Rattle.hn_pair.specs.declared.assigned.Assigned.{Assigned}
 
 -- of other nodes than the own one the list has what these nodes advertise
 abbrev pub HasOfOthers : ℕ → List Entry → List Advertised → Type 0

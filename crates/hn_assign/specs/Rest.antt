@@ -2,9 +2,9 @@
 -- assignment (RFC 7695, section 4.1).
 use Rattle.std.specs.Prelude.{◌≡◌, ℕ, IsTrue, IsSome, ◌⊎◌, List, Option, Some, None}
 use Rattle.hn_base.specs.Key.{IsAbove}
-use Rattle.hn_assign.specs.declared.assigned.Advertised.{Advertised}
-use Rattle.hn_assign.specs.declared.assigned.Assigned.{Assigned}
-use Rattle.hn_assign.specs.declared.assigned.Wish.{Wish}
+use Rattle.hn_assign.specs.declared.advertised.Advertised.{Advertised}
+use Rattle.hn_pair.specs.declared.assigned.Assigned.{Assigned}
+use Rattle.hn_pair.specs.declared.assigned.Wish.{Wish}
 use Rattle.hn_assign.specs.Advertised.{key_of}
 use Rattle.hn_assign.specs.Best.{IsBest, HasNoBest, IsValid, HasNoFree}
 use Rattle.hn_assign.specs.Lines.{IsAhead}

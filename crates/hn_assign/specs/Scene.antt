@@ -3,9 +3,9 @@ use Rattle.std.specs.Prelude.{ℕ, List, map, Option, false}
 use Rattle.hn_data.specs.View.{PlainView}
 use Rattle.hn_base.specs.Prefix.{PlainPrefix}
 use Rattle.hn_prefix.specs.Free.{IsFirstFree}
-use Rattle.hn_assign.specs.declared.assigned.Advertised.{Advertised}
-use Rattle.hn_assign.specs.declared.assigned.Assigned.{Assigned}
-use Rattle.hn_assign.specs.declared.assigned.Wish.{Wish}
+use Rattle.hn_assign.specs.declared.advertised.Advertised.{Advertised}
+use Rattle.hn_pair.specs.declared.assigned.Assigned.{Assigned}
+use Rattle.hn_pair.specs.declared.assigned.Wish.{Wish}
 use Rattle.hn_assign.specs.declared.scene.Scene.{Scene}
 use Rattle.hn_assign.specs.Best.{IsBestIfAny, IsValid, IsFreeIn, HasNoFree}
 

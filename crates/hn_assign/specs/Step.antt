@@ -2,12 +2,12 @@
 use Rattle.std.specs.Prelude.{◌≡◌, ℕ, List, ◌++◌, Option}
 use Rattle.hn_data.specs.View.{PlainView}
 use Rattle.hn_base.specs.Words.{Took}
-use Rattle.hn_assign.specs.declared.assigned.Advertised.{Advertised}
-use Rattle.hn_assign.specs.declared.assigned.Wish.{Wish}
-use Rattle.hn_assign.specs.declared.held.Ran.{Ran}
+use Rattle.hn_assign.specs.declared.advertised.Advertised.{Advertised}
+use Rattle.hn_pair.specs.declared.assigned.Wish.{Wish}
+use Rattle.hn_assign.specs.declared.ran.Ran.{Ran}
 use Rattle.hn_assign.specs.declared.slot.Slot.{Slot}
 use Rattle.hn_assign.specs.Gathered.{AreAdvertised}
-use Rattle.hn_assign.specs.Pair.{assigned_pair, backoff_pair, wish_pair, Updates}
+use Rattle.hn_pair.specs.Pair.{assigned_pair, backoff_pair, wish_pair, Updates}
 use Rattle.hn_assign.specs.Scene.{scene_of}
 use Rattle.hn_assign.specs.Lines.{IsPairTurn}
 use Rattle.hn_assign.specs.Slot.{IsSlot}

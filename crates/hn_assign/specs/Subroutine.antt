@@ -1,11 +1,11 @@
 -- The assignment subroutine over all pairs (RFC 7695, section 4.1).
 use Rattle.std.specs.Prelude.{◌≡◌, ℕ, List, [], ◌∷◌, map}
 use Rattle.hn_data.specs.View.{PlainView}
-use Rattle.hn_assign.specs.declared.assigned.Wish.{Wish}
-use Rattle.hn_assign.specs.declared.held.Held.{Held}
-use Rattle.hn_assign.specs.declared.held.Ran.{Ran}
-use Rattle.hn_assign.specs.Marks.{marked_applied}
-use Rattle.hn_assign.specs.Pair.{assigned_pair, backoff_pair, KeepsWished}
+use Rattle.hn_pair.specs.declared.assigned.Wish.{Wish}
+use Rattle.hn_pair.specs.declared.held.Held.{Held}
+use Rattle.hn_assign.specs.declared.ran.Ran.{Ran}
+use Rattle.hn_pair.specs.Marks.{marked_applied}
+use Rattle.hn_pair.specs.Pair.{assigned_pair, backoff_pair, KeepsWished}
 use Rattle.hn_assign.specs.Step.{IsPairStep}
 
 -- at its begin the assignments and backoffs of pairs without a wish are destroyed, and no word is taken

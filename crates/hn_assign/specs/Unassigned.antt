@@ -1,7 +1,7 @@
 -- The first line of the table: a pair without a best prefix and without an assignment (RFC 7695, section 4.1).
 use Rattle.std.specs.Prelude.{◌≡◌, ℕ, ◌+◌, ◌%◌, ◌<◌, ◌≤◌, ◌⊎◌, IsTrue, List, [], ◌∷◌, None, Some}
 use Rattle.hn_base.specs.Prefix.{PlainPrefix}
-use Rattle.hn_assign.specs.declared.backoff.Backoff.{Backoff}
+use Rattle.hn_pair.specs.declared.backoff.Backoff.{Backoff}
 use Rattle.hn_assign.specs.declared.slot.Slot.{Slot}
 use Rattle.hn_assign.specs.Scene.{PlainScene, IsFreeFor, HasNoFreeFor, IsFirstFreeFor, new_assigned}
 

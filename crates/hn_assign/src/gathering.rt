@@ -1,12 +1,12 @@
 ghost use Rattle.std.specs.Prelude.{◌≡◌, ◌↔◌, ◌⊎◌, ◌^◌, ◌≤◌, IfOk, OnOk, Contains};
 ghost use Rattle.hn_data.specs.View.{plain_view, IsNetwork};
-ghost use Rattle.hn_assign.specs.declared.assigned.Advertised.{Advertised};
+ghost use Rattle.hn_assign.specs.declared.advertised.Advertised.{Advertised};
 ghost use Rattle.hn_assign.specs.Gathered.{IsSaidByNode, IsOfOther, IsOwn, AreAdvertised};
 
-use crate::assigned::{Advertised, Assigned};
-use crate::held::Held;
+use crate::advertised::Advertised;
 use hn_base::{Key, NoMemory, NodeId, Sequence};
 use hn_data::{Entry, View, version};
+use hn_pair::{Assigned, Held};
 use std::alloc::Global;
 
 /// Advertised prefixes, in no order.

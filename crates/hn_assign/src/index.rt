@@ -4,18 +4,18 @@ ghost use Rattle.hn_base.specs.Ascending.{HaveSame};
 ghost use Rattle.hn_base.specs.Prefix.{PlainPrefix, IsInside, Overlaps};
 ghost use Rattle.hn_data.specs.View.{plain_view, IsNetwork};
 ghost use Rattle.hn_prefix.specs.Free.{IsFirstFree};
-ghost use Rattle.hn_assign.specs.declared.assigned.Advertised.{Advertised};
+ghost use Rattle.hn_assign.specs.declared.advertised.Advertised.{Advertised};
 ghost use Rattle.hn_assign.specs.Between.{AreBetween};
 ghost use Rattle.hn_assign.specs.Best.{IsBestIfAny, IsValid, IsFreeIn, HasNoFree};
 ghost use Rattle.hn_assign.specs.Gathered.{AreAdvertised};
 ghost use Rattle.hn_assign.specs.Indexed.{IsFrontUpTo, short_of};
 
-use crate::assigned::{Advertised, Assigned};
+use crate::advertised::Advertised;
 use crate::gathering::gather;
-use crate::held::Held;
 use crate::precedence::{best, valid};
 use hn_base::{EpId, NoMemory, NodeId};
 use hn_data::View;
+use hn_pair::{Assigned, Held};
 use hn_prefix::{Prefix, first_free, inside_is_range, sub_prefixes_are_all, within_is_not_shorter};
 use std::alloc::Global;
 use std::marker::Model;
@@ -39,7 +39,7 @@ pub struct Index {
 
 impl Model for Index {
     ghost use Rattle.std.specs.Prelude.{List};
-    ghost use Rattle.hn_assign.specs.declared.assigned.Advertised.{Advertised};
+    ghost use Rattle.hn_assign.specs.declared.advertised.Advertised.{Advertised};
     ghost use Rattle.hn_assign.specs.Indexed.{IsIndexed};
 
     ghost Value = { List Advertised };

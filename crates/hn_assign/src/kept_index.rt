@@ -6,13 +6,12 @@ ghost use Rattle.hn_data.specs.View.{plain_view, IsNetwork};
 ghost use Rattle.hn_assign.specs.Alike.{AdvertisesAs, AdvertiseAlike};
 ghost use Rattle.hn_assign.specs.Gathered.{AreAdvertised};
 
-use crate::assigned::Assigned;
 use crate::changed::changed_nodes;
-use crate::held::Held;
 use crate::index::Index;
 use crate::renewing::renewed;
 use hn_base::{NoMemory, NodeId, Shared};
 use hn_data::{AssignedPrefix, Entry, NodeData, View, version};
+use hn_pair::{Assigned, Held};
 use std::alloc::Global;
 use std::marker::Model;
 

@@ -1,16 +1,14 @@
-//! Laws of the assignment subroutine (RFC 7695, section 4.1), and of the order of pairs.
+//! Laws of the assignment subroutine (RFC 7695, section 4.1).
 //!
 //! Each is the contract of a function that does nothing: call it to know its law.
 
 ghost use Rattle.std.specs.Prelude.{List, All};
-ghost use Rattle.std.specs.Cmp.{IsTotalOrder};
-ghost use Rattle.hn_base.specs.Ascending.{IsExact};
 ghost use Rattle.hn_data.specs.View.{PlainView};
-ghost use Rattle.hn_assign.specs.declared.assigned.Advertised.{Advertised};
-ghost use Rattle.hn_assign.specs.declared.assigned.Assigned.{Assigned};
-ghost use Rattle.hn_assign.specs.declared.assigned.Wish.{Wish};
-ghost use Rattle.hn_assign.specs.declared.held.Held.{Held};
-ghost use Rattle.hn_assign.specs.declared.held.Ran.{Ran};
+ghost use Rattle.hn_assign.specs.declared.advertised.Advertised.{Advertised};
+ghost use Rattle.hn_pair.specs.declared.assigned.Assigned.{Assigned};
+ghost use Rattle.hn_pair.specs.declared.assigned.Wish.{Wish};
+ghost use Rattle.hn_pair.specs.declared.held.Held.{Held};
+ghost use Rattle.hn_assign.specs.declared.ran.Ran.{Ran};
 ghost use Rattle.hn_assign.specs.declared.slot.Slot.{Slot};
 ghost use Rattle.hn_assign.specs.Laws.{BestIsUnique, SubroutineKeepsInside, SubroutineKeepsPast};
 ghost use Rattle.hn_assign.specs.Laws.{SubroutineKeepsPriority, AssignedAscend, BackoffsAscend, AssignedAreWished};
@@ -20,18 +18,13 @@ ghost use Rattle.hn_assign.specs.Laws.{RestStaysUnwanted, AdvertisedOfLater, Idl
 ghost use Rattle.hn_assign.specs.Laws.{SameHaveOneFirstFree, SameHaveSameFree, SameHaveSameValid, AdvertisedExists};
 ghost use Rattle.hn_assign.specs.Laws.{SubroutineKeepsLengths, SubroutineKeepsPrefixes, SubroutineKeepsSoon, SubroutineHasAResult, SubroutineHasADueRun};
 ghost use Rattle.hn_assign.specs.Lines.{IsKeptAlone, IsAdopted, IsKeptAhead, IsYielded, IsReplacedByBest};
-ghost use Rattle.hn_assign.specs.Pair.{IsWished, backoff_pair, pair_cmp};
+ghost use Rattle.hn_pair.specs.Pair.{IsWished, backoff_pair};
 ghost use Rattle.hn_assign.specs.Scene.{PlainScene};
 ghost use Rattle.hn_assign.specs.Subroutine.{IsSubroutine};
 
 use hn_data::{items_are_unique, items_or_none};
+use hn_pair::lists_exist;
 use hn_prefix::{free_or_full, inside_are_sub_prefixes, within_is_not_shorter};
-
-/// The order of pairs is total, and only a pair itself is equal to it by this order.
-pub fn pairs_are_ordered()
-    ensures total { IsTotalOrder pair_cmp }
-    ensures exact { IsExact pair_cmp }
-{}
 
 /// At most one line of the table applies to a pair: its best prefix is one, and the lines that are for the same best
 /// prefix and assignment exclude each other.
@@ -157,5 +150,6 @@ pub fn subroutine_has_a_result()
     advertised_exists();
     free_or_full();
     inside_are_sub_prefixes();
+    lists_exist();
     within_is_not_shorter();
 }

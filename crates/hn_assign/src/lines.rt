@@ -5,11 +5,12 @@ ghost use Rattle.hn_assign.specs.Scene.{plain_scene};
 ghost use Rattle.hn_assign.specs.Lines.{following, IfValid, IsAhead, IsFollowed, IsKeptAlone, IsAdopted, IsKeptAhead};
 ghost use Rattle.hn_assign.specs.Lines.{IsYielded, IsReplacedByBest};
 
-use crate::assigned::{Advertised, Assigned};
+use crate::advertised::Advertised;
 use crate::precedence::PRIORITY;
 use crate::scene::Scene;
 use crate::slot::Slot;
 use hn_base::Key;
+use hn_pair::Assigned;
 
 impl Scene<'_> {
     /// 2. A best prefix and no assignment: the best is followed.

@@ -5,8 +5,9 @@ ghost use Rattle.hn_base.specs.Prefix.{IsWithin, Overlaps};
 ghost use Rattle.hn_assign.specs.Advertised.{IsAdvertisedOnLink, advertised_cmp};
 ghost use Rattle.hn_assign.specs.Best.{IsBestIfAny, IsValid};
 
-use crate::assigned::{Advertised, Assigned};
+use crate::advertised::Advertised;
 use hn_base::{EpId, Key, NodeId};
+use hn_pair::Assigned;
 use hn_prefix::Prefix;
 
 /// The priority of assignments that a router makes and advertises (RFC 7788, section 6.3).

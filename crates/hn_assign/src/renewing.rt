@@ -5,16 +5,16 @@ ghost use Rattle.std.specs.List.Sorted.{IsStrictlySortedBy};
 ghost use Rattle.hn_base.specs.NodeIds.{node_cmp};
 ghost use Rattle.hn_data.specs.declared.view.Entry.{Entry};
 ghost use Rattle.hn_data.specs.View.{plain_view};
-ghost use Rattle.hn_assign.specs.declared.assigned.Advertised.{Advertised};
+ghost use Rattle.hn_assign.specs.declared.advertised.Advertised.{Advertised};
 ghost use Rattle.hn_assign.specs.Gathered.{AreAdvertised};
 ghost use Rattle.hn_assign.specs.Renewed.{HasOfUnchanged, IsOfChanged, IsOfUnchanged, IsAnew};
 
-use crate::assigned::Advertised;
+use crate::advertised::Advertised;
 use crate::gathering::{add_other, add_own};
-use crate::held::Held;
 use crate::index::{Index, merge_by_bits};
 use hn_base::{NoMemory, NodeId, NodeIds};
 use hn_data::{Entry, View};
+use hn_pair::Held;
 use std::alloc::Global;
 
 /// Adds what a node advertises, where it is one of these.

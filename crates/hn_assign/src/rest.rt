@@ -4,8 +4,9 @@ ghost use Rattle.std.specs.Prelude.{◌↔◌, ◌≤◌, IsTrue};
 ghost use Rattle.hn_assign.specs.Rest.{StaysAlone, StaysBeside, RestsWith};
 ghost use Rattle.hn_assign.specs.Scene.{plain_scene};
 
-use crate::assigned::{Advertised, Assigned};
+use crate::advertised::Advertised;
 use crate::scene::Scene;
+use hn_pair::Assigned;
 
 impl Scene<'_> {
     /// Whether an assignment stays where no other node has the best prefix.

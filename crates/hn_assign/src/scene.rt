@@ -2,9 +2,10 @@ ghost use Rattle.std.specs.Prelude.{◌≡◌, ◌≤◌, ◌↔◌, IsTrue, IfS
 ghost use Rattle.hn_assign.specs.Scene.{plain_scene, IsBestFor, IsValidFor, IsFreeFor, HasNoFreeFor, IsFirstFreeFor};
 ghost use Rattle.hn_assign.specs.Scene.{new_assigned};
 
-use crate::assigned::{Advertised, Assigned, Wish};
+use crate::advertised::Advertised;
 use crate::index::Index;
 use hn_base::{Moment, NodeId};
+use hn_pair::{Assigned, Wish};
 use hn_prefix::Prefix;
 
 /// What a pair is judged by: the router and the moment, the wish for the pair, and the advertised prefixes.

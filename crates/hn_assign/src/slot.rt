@@ -1,7 +1,7 @@
 ghost use Rattle.std.specs.Prelude.{◌≡◌, None};
+ghost use Rattle.hn_assign.specs.Slot.{IsSlot};
 
-use crate::assigned::Assigned;
-use crate::backoff::Backoff;
+use hn_pair::{Assigned, Backoff, Held, Pair};
 
 /// What a pair has: its assignment and its backoff, where it has them.
 #[derive(Clone, Copy)]
@@ -23,5 +23,15 @@ impl Turn {
         ensures { result ≡ record { slot = slot; word = None } }
     {
         Turn { slot, word: None }
+    }
+}
+
+/// What a pair has. Never allocates.
+pub(crate) fn slot_of(held: &Held, pair: &Pair) -> Slot
+    ensures { IsSlot pair.now held.now result }
+{
+    Slot {
+        assigned: held.assigned.find(pair),
+        backoff: held.backoffs.find(pair),
     }
 }

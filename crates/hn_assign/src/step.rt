@@ -4,14 +4,16 @@ ghost use Rattle.hn_data.specs.View.{plain_view};
 ghost use Rattle.hn_assign.specs.Gathered.{AdvertiseSame, AreAdvertised};
 ghost use Rattle.hn_assign.specs.Step.{IsPairStep, StepTook};
 
-use crate::assigned::Wish;
-use crate::held::Ran;
+use crate::assignments::change_assigned;
+use crate::backoffs::change_backoff;
+use crate::ran::Ran;
 use crate::index::Index;
-use crate::pair::Paired;
 use crate::scene::Scene;
+use crate::slot::slot_of;
 use hn_base::{NoMemory, Words};
 use hn_data::View;
 use hn_io::Draw;
+use hn_pair::{Paired, Wish};
 
 impl Ran {
     /// The turn of a pair: whether it changed what the router advertises.
@@ -31,7 +33,7 @@ impl Ran {
             → AdvertiseSame self.old.held.assigned self.new.held.assigned) }
     {
         let pair = wish.pair();
-        let before = self.held.slot(&pair);
+        let before = slot_of(&self.held, &pair);
         let scene = Scene {
             own: view.own,
             now: view.now,
@@ -40,12 +42,18 @@ impl Ran {
         };
         let turn = scene.turn(&before, draw);
         add(&mut self.words, turn.word)?;
-        self.held
-            .backoffs
-            .change(&pair, &before.backoff, &turn.slot.backoff)?;
-        self.held
-            .assigned
-            .change(&pair, &before.assigned, &turn.slot.assigned)
+        change_backoff(
+            &mut self.held.backoffs,
+            &pair,
+            &before.backoff,
+            &turn.slot.backoff,
+        )?;
+        change_assigned(
+            &mut self.held.assigned,
+            &pair,
+            &before.assigned,
+            &turn.slot.assigned,
+        )
     }
 }
 

@@ -2,21 +2,20 @@ ghost use Rattle.std.specs.Prelude.{◌≡◌, ◌^◌, ◌≤◌, [], All, IfOk
 ghost use Rattle.hn_base.specs.Words.{Took};
 ghost use Rattle.hn_data.specs.View.{plain_view, IsNetwork};
 ghost use Rattle.hn_assign.specs.Gathered.{AreAdvertised};
-ghost use Rattle.hn_assign.specs.Facts.{AreWishes, IsInDelegated, IsAssignedPast, HasOwnPriority};
-ghost use Rattle.hn_assign.specs.Pair.{IsAscending, assigned_pair, backoff_pair, wish_pair};
+ghost use Rattle.hn_pair.specs.Facts.{AreWishes, IsInDelegated, IsAssignedPast, HasOwnPriority};
+ghost use Rattle.hn_pair.specs.Pair.{IsAscending, assigned_pair, backoff_pair, wish_pair};
 ghost use Rattle.hn_assign.specs.Renewed.{HasOfOthers};
 ghost use Rattle.hn_assign.specs.Subroutine.{IsBegun, AreSteps, IsSubroutine};
 
-use crate::assigned::Wish;
 use crate::changed::own_node;
-use crate::held::{Held, Ran};
+use crate::ran::Ran;
 use crate::index::Index;
 use crate::kept_index::KeptIndex;
 use crate::renewing::renewed;
-use crate::wishes::Wishes;
 use hn_base::{NoMemory, Shared, Words};
 use hn_data::View;
 use hn_io::{Draw, words_join};
+use hn_pair::{Held, Wish, Wishes};
 use std::alloc::Global;
 
 /// The assignment subroutine for all pairs of a used delegated prefix and a post, which is an attached endpoint or the

@@ -6,10 +6,11 @@ ghost use Rattle.hn_base.specs.Words.{Took};
 ghost use Rattle.hn_assign.specs.Scene.{plain_scene};
 ghost use Rattle.hn_assign.specs.Lines.{IsKeptAlone, IsAdopted, IsKeptAhead, IsYielded, IsReplacedByBest, IsPairTurn};
 
-use crate::assigned::{Advertised, Assigned};
+use crate::advertised::Advertised;
 use crate::scene::Scene;
 use crate::slot::{Slot, Turn};
 use hn_io::Draw;
+use hn_pair::Assigned;
 
 impl Scene<'_> {
     /// What a pair has after its turn.

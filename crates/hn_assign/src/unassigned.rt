@@ -6,11 +6,11 @@ ghost use Rattle.hn_base.specs.Words.{Took};
 ghost use Rattle.hn_assign.specs.Scene.{plain_scene};
 ghost use Rattle.hn_assign.specs.Unassigned.{HasFree, HasNothingToDo, IsLeftAlone, IsPostponed, IsWaiting, IsMade, IsUnassigned};
 
-use crate::backoff::Backoff;
 use crate::precedence::PRIORITY;
 use crate::scene::Scene;
 use crate::slot::{Slot, Turn};
 use hn_io::Draw;
+use hn_pair::Backoff;
 
 /// Backoffs are below this many milliseconds (RFC 7788, section 6.3).
 const BACKOFFS: u32 = 4001;

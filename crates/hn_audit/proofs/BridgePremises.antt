@@ -3,7 +3,7 @@ use Rattle.hn_base.proofs.Names.{◌≡◌, ◌∙◌, ◌≤◌, ℕ, List, Som
 use Rattle.hn_audit.proofs.Names.{Contains-map, EpId, Assigned, Pair, IsWished, assigned_pair, pair_cmp, Delegated, AreUsable, prefixes_of, UsableIsUnique, UsableNeverOverlap, CommonLinkExists}
 use Rattle.hn_audit.proofs.Names.{AssignedIsPublished, OwnPeersAreOfEndpoints, PrivatePostIsAlone, seen_by, Endpoint, EndpointHasAssignment, Member, Parts, IsReached, AreSame, IsQuietByRules, Link, IsPostOn}
 use Rattle.hn_audit.proofs.Names.{one_of_ascending}
-use Rattle.hn_assign.specs.Facts.{IsInDelegated, HasOwnPriority}
+use Rattle.hn_pair.specs.Facts.{IsInDelegated, HasOwnPriority}
 use Rattle.hn_sound.specs.Home.{HasPublished}
 use Rattle.hn_sound.specs.Premises.{IsHome}
 use Rattle.hn_sound.specs.Premises.Premise.{OneLink, OnceOnLink, UsedApart, ForUsed, PublishedInside, OneEach, PriorityTwo}

@@ -2,14 +2,14 @@
 pub use Rattle.hn_assign.specs.Fixed.{AreAssignmentsUnchanged, AreAtRest, unmarked}
 pub use Rattle.hn_assign.specs.Gathered.{AreAdvertised}
 pub use Rattle.hn_assign.specs.Laws.{AdvertisedOfLater}
-pub use Rattle.hn_assign.specs.Pair.{IsWished, assigned_pair, pair_cmp, wish_pair}
+pub use Rattle.hn_pair.specs.Pair.{IsWished, assigned_pair, pair_cmp, wish_pair}
 pub use Rattle.hn_assign.specs.Rest.{IsAtRest}
-pub use Rattle.hn_assign.specs.declared.assigned.Advertised.{Advertised}
-pub use Rattle.hn_assign.specs.declared.assigned.Assigned.{Assigned}
-pub use Rattle.hn_assign.specs.declared.assigned.Wish.{Wish}
-pub use Rattle.hn_assign.specs.declared.held.Held.{Held}
-pub use Rattle.hn_assign.specs.declared.held.Ran.{Ran}
-pub use Rattle.hn_assign.specs.declared.pair.Pair.{Pair}
+pub use Rattle.hn_assign.specs.declared.advertised.Advertised.{Advertised}
+pub use Rattle.hn_pair.specs.declared.assigned.Assigned.{Assigned}
+pub use Rattle.hn_pair.specs.declared.assigned.Wish.{Wish}
+pub use Rattle.hn_pair.specs.declared.held.Held.{Held}
+pub use Rattle.hn_assign.specs.declared.ran.Ran.{Ran}
+pub use Rattle.hn_pair.specs.declared.pair.Pair.{Pair}
 pub use Rattle.hn_audit.specs.Calm.{AreCurrent, IsCalmSinceCopies, IsResting}
 pub use Rattle.hn_audit.specs.First.{FindsOne, IsFirstFound, IsFoundOf, OrElse}
 pub use Rattle.hn_audit.specs.FirstWitness.{AreSaid, FindsAct, FindsAlike, FindsHeld, FindsId, FindsKnown, FindsNear, FindsOfPeers, FindsOfRouter, FindsOnLinks, FindsReach, FindsNotAtRest}

@@ -5,7 +5,7 @@ use Rattle.hn_audit.proofs.Names.{seen_by, RestKnowsNoOrder, held, Attachment, M
 use Rattle.hn_audit.proofs.Names.{FindsId, FindsKnown, FindsReach, FindsUsed, IsFirstUnsettled, FindsNear, FindsOfPeers, FindsOnLinks, FindsStranger, FindsUnseen, FindsUntrue, act_of, FindsAct}
 use Rattle.hn_audit.proofs.Names.{FindsOfRouter, FindsNotAtRest, FindsUnasked, IsFirstUnquiet, PlainSpot, set_of}
 use Rattle.hn_assign.specs.Laws.{SameHaveOneBest}
-use Rattle.hn_assign.specs.Pair.{IsAscending}
+use Rattle.hn_pair.specs.Pair.{IsAscending}
 use Rattle.hn_data.specs.Peers.{peer_cmp}
 use Rattle.hn_audit.specs.declared.witness.Unquiet.TheVariants as act
 use Rattle.hn_audit.specs.declared.witness.Unsettled.TheVariants as cause

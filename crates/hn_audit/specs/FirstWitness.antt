@@ -5,12 +5,12 @@ use Rattle.std.specs.List.Sorted.{IsStrictlySortedBy}
 use Rattle.hn_base.specs.declared.ids.NodeId.{NodeId}
 use Rattle.hn_base.specs.declared.name.Name.{Name}
 use Rattle.hn_base.specs.Ascending.{HasAt}
-use Rattle.hn_assign.specs.declared.assigned.Advertised.{Advertised}
-use Rattle.hn_assign.specs.declared.assigned.Assigned.{Assigned}
-use Rattle.hn_assign.specs.declared.assigned.Wish.{Wish}
+use Rattle.hn_assign.specs.declared.advertised.Advertised.{Advertised}
+use Rattle.hn_pair.specs.declared.assigned.Assigned.{Assigned}
+use Rattle.hn_pair.specs.declared.assigned.Wish.{Wish}
 use Rattle.hn_assign.specs.Best.{IsBestIfAny}
 use Rattle.hn_assign.specs.Fixed.{IsWishAtRest}
-use Rattle.hn_assign.specs.Pair.{IsWished, assigned_pair, wish_pair}
+use Rattle.hn_pair.specs.Pair.{IsWished, assigned_pair, wish_pair}
 use Rattle.hn_assign.specs.Rest.{IsAtRest}
 use Rattle.hn_data.specs.Peers.{HasPeer, peer_cmp}
 use Rattle.hn_data.specs.declared.said.PeerLink.{PeerLink}

@@ -3,8 +3,8 @@
 use Rattle.std.specs.Prelude.{◌≡◌, ℕ, List, All}
 use Rattle.hn_base.specs.Exists.{Some! }
 use Rattle.hn_base.specs.Words.{Begins}
-use Rattle.hn_assign.specs.declared.assigned.Wish.{Wish}
-use Rattle.hn_assign.specs.declared.held.Ran.{Ran}
+use Rattle.hn_pair.specs.declared.assigned.Wish.{Wish}
+use Rattle.hn_assign.specs.declared.ran.Ran.{Ran}
 use Rattle.hn_assign.specs.Fixed.{IsDueRun, AreAssignmentsUnchanged}
 use Rattle.hn_deleg.specs.declared.delegated.Delegated.{Delegated}
 use Rattle.hn_deleg.specs.Used.{AreUsable}

@@ -1,10 +1,10 @@
 -- A quiet router: no router of its set would make, change or destroy an assignment. Backoffs that wait are no part of it.
 use Rattle.std.specs.Prelude.{List, All}
-use Rattle.hn_assign.specs.declared.assigned.Advertised.{Advertised}
-use Rattle.hn_assign.specs.declared.assigned.Wish.{Wish}
+use Rattle.hn_assign.specs.declared.advertised.Advertised.{Advertised}
+use Rattle.hn_pair.specs.declared.assigned.Wish.{Wish}
 use Rattle.hn_assign.specs.Fixed.{AreAtRest}
 use Rattle.hn_assign.specs.Gathered.{AreAdvertised}
-use Rattle.hn_assign.specs.Pair.{IsWished, assigned_pair}
+use Rattle.hn_pair.specs.Pair.{IsWished, assigned_pair}
 use Rattle.hn_deleg.specs.declared.delegated.Delegated.{Delegated}
 use Rattle.hn_deleg.specs.Used.{AreUsable}
 use Rattle.hn_rules.specs.declared.state.State.{State}

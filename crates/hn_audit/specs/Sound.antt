@@ -5,8 +5,8 @@ use Rattle.hn_base.specs.declared.ids.NodeId.{NodeId}
 use Rattle.hn_base.specs.declared.ids.EpId.{EpId}
 use Rattle.hn_base.specs.declared.letter.Letter.{Letter}
 use Rattle.hn_base.specs.Prefix.{PlainPrefix, IsWithin, Overlaps}
-use Rattle.hn_assign.specs.declared.assigned.Advertised.{Advertised}
-use Rattle.hn_assign.specs.declared.assigned.Assigned.{Assigned}
+use Rattle.hn_assign.specs.declared.advertised.Advertised.{Advertised}
+use Rattle.hn_pair.specs.declared.assigned.Assigned.{Assigned}
 use Rattle.hn_assign.specs.Best.{HasNoFree}
 use Rattle.hn_assign.specs.Gathered.{AreAdvertised}
 use Rattle.hn_deleg.specs.declared.delegated.Delegated.{Delegated}

@@ -5,12 +5,12 @@ use Rattle.hn_base.specs.declared.ids.EpId.{EpId}
 use Rattle.hn_base.specs.declared.name.Name.{Name}
 use Rattle.hn_base.specs.Ascending.{HasAt}
 use Rattle.hn_base.specs.Prefix.{PlainPrefix}
-use Rattle.hn_assign.specs.declared.assigned.Advertised.{Advertised}
-use Rattle.hn_assign.specs.declared.assigned.Assigned.{Assigned}
-use Rattle.hn_assign.specs.declared.assigned.Wish.{Wish}
+use Rattle.hn_assign.specs.declared.advertised.Advertised.{Advertised}
+use Rattle.hn_pair.specs.declared.assigned.Assigned.{Assigned}
+use Rattle.hn_pair.specs.declared.assigned.Wish.{Wish}
 use Rattle.hn_assign.specs.Best.{IsBest, HasNoBest, HasNoFree}
 use Rattle.hn_assign.specs.Gathered.{AreAdvertised}
-use Rattle.hn_assign.specs.Pair.{IsWished, assigned_pair, wish_pair}
+use Rattle.hn_pair.specs.Pair.{IsWished, assigned_pair, wish_pair}
 use Rattle.hn_assign.specs.Rest.{IsAtRest}
 use Rattle.hn_deleg.specs.declared.delegated.Delegated.{Delegated}
 use Rattle.hn_deleg.specs.Used.{AreUsable}

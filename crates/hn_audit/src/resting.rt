@@ -2,8 +2,8 @@
 //! assignment.
 
 ghost use Rattle.std.specs.Prelude.{◌≡◌, ◌↔◌, ◌≤◌, IsTrue, IfOk};
-ghost use Rattle.hn_assign.specs.Facts.{AreWishes};
-ghost use Rattle.hn_assign.specs.Pair.{IsAscending, IsWished, assigned_pair, wish_pair};
+ghost use Rattle.hn_pair.specs.Facts.{AreWishes};
+ghost use Rattle.hn_pair.specs.Pair.{IsAscending, IsWished, assigned_pair, wish_pair};
 ghost use Rattle.hn_audit.specs.First.{IsFirstFound};
 ghost use Rattle.hn_audit.specs.FirstWitness.{act_of, FindsUnasked, FindsNotAtRest, FindsAct, FindsOfRouter};
 ghost use Rattle.hn_audit.specs.Set.{members_of};

@@ -8,9 +8,9 @@ use Rattle.hn_base.proofs.FirstWords.{begins_along}
 use Rattle.hn_base.proofs.FrontOfList.{front_more}
 use Rattle.hn_base.proofs.Names.{on, on_total, sorted_tail, IsStrictlySortedBy, Ordering}
 use mathlib.Core.Bool.{true≢false}
-use Rattle.hn_assign.specs.declared.assigned.Assigned.{Assigned}
-use Rattle.hn_assign.specs.declared.pair.Pair.{Pair}
-use Rattle.hn_assign.specs.Pair.{IsAscending, pair_cmp}
+use Rattle.hn_pair.specs.declared.assigned.Assigned.{Assigned}
+use Rattle.hn_pair.specs.declared.pair.Pair.{Pair}
+use Rattle.hn_pair.specs.Pair.{IsAscending, pair_cmp}
 use Rattle.hn_router.specs.Plan.{PlainPlan}
 use Rattle.hn_rules.specs.declared.done.Done.{Done}
 use Rattle.hn_rules.specs.declared.state.State.{State}

@@ -1,7 +1,7 @@
 -- An event that happened over the words that were chosen for it.
 use Rattle.hn_base.proofs.Names.{◌≡◌, ◌≢◌, ◌∙◌, ℕ, List, [], ◌∷◌, length, refl, sym, ap, subst, arith, Option, Some, Took, Begins}
 use Rattle.rand_chacha.specs.ChaCha.{ChaCha}
-use Rattle.hn_assign.specs.Pair.{IsAscending}
+use Rattle.hn_pair.specs.Pair.{IsAscending}
 use Rattle.hn_router.specs.Act.{PlainEvent, Tick, Happened}
 use Rattle.hn_router.specs.Laws.{OneResult}
 use Rattle.hn_kept.specs.declared.preferred.Preferred.{Preferred}

@@ -6,10 +6,10 @@ use Rattle.hn_base.proofs.PartsAtPlaces.{one_of_ascending}
 use Rattle.hn_base.proofs.Prefixes.{prefix_total, exact_prefix}
 use Rattle.hn_base.proofs.Names.{prefix_cmp, PlainPrefix, Ordering, Less, Equal, Greater, ordering_reverse}
 use Rattle.hn_prefix.specs.Laws.{PlaceIsFirst, InsideAreSubPrefixes}
-use Rattle.hn_assign.specs.declared.assigned.Assigned.{Assigned}
-use Rattle.hn_assign.specs.declared.held.Held.{Held}
-use Rattle.hn_assign.specs.declared.pair.Pair.{Pair}
-use Rattle.hn_assign.specs.Pair.{IsAscending, assigned_pair, pair_cmp}
+use Rattle.hn_pair.specs.declared.assigned.Assigned.{Assigned}
+use Rattle.hn_pair.specs.declared.held.Held.{Held}
+use Rattle.hn_pair.specs.declared.pair.Pair.{Pair}
+use Rattle.hn_pair.specs.Pair.{IsAscending, assigned_pair, pair_cmp}
 use Rattle.hn_assign.specs.Scene.{IsFreeFor}
 use Rattle.hn_rules.specs.declared.done.Done.{Done}
 use Rattle.hn_rules.specs.declared.running.Running.{Running}

@@ -3,7 +3,7 @@ use Rattle.hn_base.proofs.Names.{◌≡◌, ◌∙◌, ℕ, List, [], ◌∷◌,
 use Rattle.hn_base.proofs.RulesKeepPart.{kept_then, kept_each, kept_on}
 use Rattle.hn_base.specs.declared.ids.EpId.{EpId}
 use Rattle.hn_dncp.specs.declared.port.Port.{Port}
-use Rattle.hn_assign.specs.declared.held.Held.{Held}
+use Rattle.hn_pair.specs.declared.held.Held.{Held}
 use Rattle.hn_own.specs.Ports.{endpoints_of, port_at}
 use Rattle.hn_rules.specs.declared.running.Running.{Running}
 use Rattle.hn_rules.specs.Delegating.{ending}

@@ -11,9 +11,9 @@ use Rattle.hn_base.proofs.Pigeonhole.{no_longer}
 use Rattle.hn_base.proofs.Prefixes.{same_prefix, prefix_total, exact_prefix}
 use Rattle.hn_base.specs.declared.ids.EpId.{EpId}
 use Rattle.hn_advert.specs.declared.advert.Info.{Info}
-use Rattle.hn_assign.specs.Pair.{IsAscending, assigned_pair, pair_cmp}
-use Rattle.hn_assign.specs.declared.assigned.Assigned.{Assigned}
-use Rattle.hn_assign.specs.declared.pair.Pair.{Pair}
+use Rattle.hn_pair.specs.Pair.{IsAscending, assigned_pair, pair_cmp}
+use Rattle.hn_pair.specs.declared.assigned.Assigned.{Assigned}
+use Rattle.hn_pair.specs.declared.pair.Pair.{Pair}
 use Rattle.hn_deleg.specs.declared.delegated.Delegated.{Delegated}
 use Rattle.hn_rules.specs.Router.{IsRouter}
 use Rattle.hn_rules.specs.declared.state.State.{State}

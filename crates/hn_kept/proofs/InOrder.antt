@@ -3,7 +3,7 @@ use Rattle.hn_base.proofs.Names.{◌≡◌, ◌∙◌, ap, append_assoc, List, [
 use Rattle.hn_base.proofs.AscendingLists.{Contains-head, Contains-tail, Contains-cases, below_head}
 use Rattle.hn_base.proofs.AscendingMade.{sorted_cons}
 use Rattle.hn_base.proofs.Elements.{from_filter}
-use Rattle.hn_assign.specs.Pair.{IsAscending, pair_cmp}
+use Rattle.hn_pair.specs.Pair.{IsAscending, pair_cmp}
 use Rattle.hn_kept.specs.declared.preferred.Preferred.{Preferred}
 use Rattle.hn_kept.specs.Preferred.{preferred_pair, before_pair, after_pair, with_preferred}
 use Rattle.hn_kept.proofs.KeptPairs.{less_of}

@@ -5,9 +5,9 @@ use Rattle.hn_base.proofs.AscendingLists.{ascending_unique}
 use Rattle.hn_base.proofs.Elements.{any_of, any_from, in_filter, from_filter}
 use Rattle.hn_base.proofs.Keys.{same_id}
 use Rattle.hn_base.proofs.Prefixes.{same_prefix}
-use Rattle.hn_assign.specs.declared.assigned.Assigned.{Assigned}
-use Rattle.hn_assign.specs.declared.pair.Pair.{Pair}
-use Rattle.hn_assign.specs.Pair.{IsAscending, assigned_pair, pair_cmp}
+use Rattle.hn_pair.specs.declared.assigned.Assigned.{Assigned}
+use Rattle.hn_pair.specs.declared.pair.Pair.{Pair}
+use Rattle.hn_pair.specs.Pair.{IsAscending, assigned_pair, pair_cmp}
 use Rattle.hn_kept.specs.declared.preferred.Preferred.{Preferred}
 use Rattle.std.specs.Ordering.{is_le}
 use Rattle.hn_kept.specs.Choosing.{earlier_ones, first_ones}

@@ -3,16 +3,16 @@ use Rattle.hn_base.proofs.Names.{◌≡◌, ◌∙◌, ℕ, List, [], ◌∷◌,
 use Rattle.hn_base.proofs.AscendingLists.{nothing_in, Contains-head, Contains-cases, Contains-from_map, below_head, not_below_itself}
 use Rattle.hn_base.proofs.AtKey.{has_one}
 use Rattle.hn_base.proofs.Names.{on, sorted_tail, Less}
-use Rattle.hn_assign.specs.declared.assigned.Advertised.{Advertised}
-use Rattle.hn_assign.specs.declared.assigned.Assigned.{Assigned}
-use Rattle.hn_assign.specs.declared.assigned.Wish.{Wish}
-use Rattle.hn_assign.specs.declared.held.Held.{Held}
-use Rattle.hn_assign.specs.declared.held.Ran.{Ran}
+use Rattle.hn_assign.specs.declared.advertised.Advertised.{Advertised}
+use Rattle.hn_pair.specs.declared.assigned.Assigned.{Assigned}
+use Rattle.hn_pair.specs.declared.assigned.Wish.{Wish}
+use Rattle.hn_pair.specs.declared.held.Held.{Held}
+use Rattle.hn_assign.specs.declared.ran.Ran.{Ran}
 use Rattle.hn_assign.specs.declared.slot.Slot.{Slot}
 use Rattle.hn_assign.specs.Laws.{AssignedAreWished}
 use Rattle.hn_assign.specs.Lines.{IsLine, IsPairTurn}
-use Rattle.hn_assign.specs.Marks.{marked_applied}
-use Rattle.hn_assign.specs.Pair.{IsAscending, IsWished, assigned_pair, wish_pair, pair_cmp}
+use Rattle.hn_pair.specs.Marks.{marked_applied}
+use Rattle.hn_pair.specs.Pair.{IsAscending, IsWished, assigned_pair, wish_pair, pair_cmp}
 use Rattle.hn_assign.specs.Scene.{PlainScene, scene_of, new_assigned}
 use Rattle.hn_assign.specs.Step.{IsPairStep}
 use Rattle.hn_assign.specs.Subroutine.{IsBegun, AreSteps}

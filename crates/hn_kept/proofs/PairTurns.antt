@@ -3,15 +3,15 @@ use Rattle.hn_base.proofs.Names.{◌≡◌, ◌∙◌, ◌⊎◌, ℕ, IsTrue, L
 use Rattle.hn_base.proofs.AtKey.{has_one}
 use Rattle.hn_data.specs.View.{PlainView}
 use Rattle.hn_base.specs.Prefix.{PlainPrefix}
-use Rattle.hn_assign.specs.declared.assigned.Advertised.{Advertised}
-use Rattle.hn_assign.specs.declared.assigned.Assigned.{Assigned}
-use Rattle.hn_assign.specs.declared.assigned.Wish.{Wish}
-use Rattle.hn_assign.specs.declared.backoff.Backoff.{Backoff}
-use Rattle.hn_assign.specs.declared.held.Ran.{Ran}
+use Rattle.hn_assign.specs.declared.advertised.Advertised.{Advertised}
+use Rattle.hn_pair.specs.declared.assigned.Assigned.{Assigned}
+use Rattle.hn_pair.specs.declared.assigned.Wish.{Wish}
+use Rattle.hn_pair.specs.declared.backoff.Backoff.{Backoff}
+use Rattle.hn_assign.specs.declared.ran.Ran.{Ran}
 use Rattle.hn_assign.specs.declared.slot.Slot.{Slot}
 use Rattle.hn_assign.specs.Laws.{SameHaveOneBest}
 use Rattle.hn_assign.specs.Lines.{IsLine}
-use Rattle.hn_assign.specs.Pair.{IsAscending, assigned_pair, backoff_pair, pair_cmp, wish_pair}
+use Rattle.hn_pair.specs.Pair.{IsAscending, assigned_pair, backoff_pair, pair_cmp, wish_pair}
 use Rattle.hn_assign.specs.Scene.{PlainScene, scene_of, IsFreeFor}
 use Rattle.hn_assign.specs.Step.{IsPairStep}
 use Rattle.hn_assign.specs.Unassigned.{IsUnassigned, IsMade}

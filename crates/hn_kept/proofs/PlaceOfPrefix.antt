@@ -6,7 +6,7 @@ use Rattle.hn_base.proofs.Elements.{all_of}
 use Rattle.hn_base.proofs.Names.{PlainPrefix, Overlaps}
 use Rattle.hn_prefix.specs.Free.{sub_prefix, sub_prefix_count, IsFree, IsSubPrefix, IsFirstFree}
 use Rattle.hn_prefix.specs.Laws.{PlaceIsFirst, InsideAreSubPrefixes}
-use Rattle.hn_assign.specs.declared.assigned.Advertised.{Advertised}
+use Rattle.hn_assign.specs.declared.advertised.Advertised.{Advertised}
 use Rattle.hn_assign.specs.declared.slot.Slot.{Slot}
 use Rattle.hn_assign.specs.Scene.{PlainScene, IsFreeFor, new_assigned}
 use Rattle.hn_kept.specs.declared.preferred.Preferred.{Preferred}

@@ -6,14 +6,14 @@ use Rattle.hn_base.proofs.AtKey.{has_one}
 use Rattle.hn_base.proofs.DecidingTests.{cases_by}
 use Rattle.hn_base.proofs.FirstWords.{begins_front, begins_back, begins_both, begins_along}
 use Rattle.hn_data.specs.View.{PlainView}
-use Rattle.hn_assign.specs.declared.assigned.Assigned.{Assigned}
-use Rattle.hn_assign.specs.declared.assigned.Wish.{Wish}
-use Rattle.hn_assign.specs.declared.backoff.Backoff.{Backoff}
-use Rattle.hn_assign.specs.declared.held.Held.{Held}
-use Rattle.hn_assign.specs.declared.held.Ran.{Ran}
-use Rattle.hn_assign.specs.declared.pair.Pair.{Pair}
+use Rattle.hn_pair.specs.declared.assigned.Assigned.{Assigned}
+use Rattle.hn_pair.specs.declared.assigned.Wish.{Wish}
+use Rattle.hn_pair.specs.declared.backoff.Backoff.{Backoff}
+use Rattle.hn_pair.specs.declared.held.Held.{Held}
+use Rattle.hn_assign.specs.declared.ran.Ran.{Ran}
+use Rattle.hn_pair.specs.declared.pair.Pair.{Pair}
 use Rattle.hn_assign.specs.declared.slot.Slot.{Slot}
-use Rattle.hn_assign.specs.Pair.{Updates, assigned_pair, backoff_pair, wish_pair, pair_cmp}
+use Rattle.hn_pair.specs.Pair.{Updates, assigned_pair, backoff_pair, wish_pair, pair_cmp}
 use Rattle.hn_assign.specs.Subroutine.{AreSteps, with_marks}
 use Rattle.hn_rules.specs.declared.running.Running.{Running}
 use Rattle.hn_rules.specs.declared.state.State.{State}

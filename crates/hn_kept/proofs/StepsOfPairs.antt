@@ -2,10 +2,10 @@
 use Rattle.hn_base.proofs.Names.{◌≡◌, ◌∙◌, ◌↔◌, ℕ, List, [], ◌∷◌, ◌++◌, Contains, refl, sym, ap, subst, append-nil, append_assoc}
 use Rattle.hn_base.proofs.AscendingLists.{Contains-head, Contains-tail}
 use Rattle.hn_data.specs.View.{PlainView}
-use Rattle.hn_assign.specs.declared.assigned.Assigned.{Assigned}
-use Rattle.hn_assign.specs.declared.assigned.Wish.{Wish}
-use Rattle.hn_assign.specs.declared.held.Ran.{Ran}
-use Rattle.hn_assign.specs.Pair.{IsAscending, assigned_pair, backoff_pair, wish_pair}
+use Rattle.hn_pair.specs.declared.assigned.Assigned.{Assigned}
+use Rattle.hn_pair.specs.declared.assigned.Wish.{Wish}
+use Rattle.hn_assign.specs.declared.ran.Ran.{Ran}
+use Rattle.hn_pair.specs.Pair.{IsAscending, assigned_pair, backoff_pair, wish_pair}
 use Rattle.hn_assign.specs.Subroutine.{AreSteps}
 
 module _ (view : PlainView) where

@@ -5,14 +5,14 @@ use Rattle.hn_base.proofs.FirstWords.{begins_front, begins_back, begins_along}
 use Rattle.hn_base.proofs.OneResult.{sole_both, sole_plain}
 use Rattle.hn_deleg.specs.declared.delegated.Delegated.{Delegated}
 use Rattle.hn_deleg.specs.Laws.{UsableIsUnique}
-use Rattle.hn_assign.specs.declared.assigned.Wish.{Wish}
-use Rattle.hn_assign.specs.declared.backoff.Backoff.{Backoff}
-use Rattle.hn_assign.specs.declared.assigned.Assigned.{Assigned}
-use Rattle.hn_assign.specs.declared.held.Held.{Held}
-use Rattle.hn_assign.specs.declared.held.Ran.{Ran}
-use Rattle.hn_assign.specs.declared.pair.Pair.{Pair}
+use Rattle.hn_pair.specs.declared.assigned.Wish.{Wish}
+use Rattle.hn_pair.specs.declared.backoff.Backoff.{Backoff}
+use Rattle.hn_pair.specs.declared.assigned.Assigned.{Assigned}
+use Rattle.hn_pair.specs.declared.held.Held.{Held}
+use Rattle.hn_assign.specs.declared.ran.Ran.{Ran}
+use Rattle.hn_pair.specs.declared.pair.Pair.{Pair}
 use Rattle.hn_assign.specs.Laws.{StepsHaveOneResult, SameHaveOneBest, SameHaveOneFirstFree}
-use Rattle.hn_assign.specs.Pair.{IsAscending, KeepsWished, assigned_pair, backoff_pair, wish_pair, pair_cmp}
+use Rattle.hn_pair.specs.Pair.{IsAscending, KeepsWished, assigned_pair, backoff_pair, wish_pair, pair_cmp}
 use Rattle.hn_assign.specs.Step.{IsPairStep}
 use Rattle.hn_assign.specs.Subroutine.{IsBegun, AreSteps, IsSubroutine, with_marks}
 use Rattle.hn_rules.specs.declared.running.Running.{Running}

@@ -5,13 +5,13 @@ use Rattle.hn_base.proofs.AscendingLists.{Contains-cases, Contains-map, Contains
 use Rattle.hn_base.proofs.FirstWords.{begins_along}
 use Rattle.hn_base.proofs.FrontOfList.{head_is}
 use Rattle.hn_prefix.specs.Laws.{PlaceIsFirst, InsideAreSubPrefixes}
-use Rattle.hn_assign.specs.declared.assigned.Assigned.{Assigned}
-use Rattle.hn_assign.specs.declared.assigned.Wish.{Wish}
-use Rattle.hn_assign.specs.declared.held.Held.{Held}
-use Rattle.hn_assign.specs.declared.pair.Pair.{Pair}
+use Rattle.hn_pair.specs.declared.assigned.Assigned.{Assigned}
+use Rattle.hn_pair.specs.declared.assigned.Wish.{Wish}
+use Rattle.hn_pair.specs.declared.held.Held.{Held}
+use Rattle.hn_pair.specs.declared.pair.Pair.{Pair}
 use Rattle.hn_assign.specs.declared.slot.Slot.{Slot}
-use Rattle.hn_assign.specs.Marks.{marked_applied}
-use Rattle.hn_assign.specs.Pair.{IsAscending, assigned_pair, wish_pair, pair_cmp}
+use Rattle.hn_pair.specs.Marks.{marked_applied}
+use Rattle.hn_pair.specs.Pair.{IsAscending, assigned_pair, wish_pair, pair_cmp}
 use Rattle.hn_assign.specs.Scene.{scene_of, IsFreeFor, IsFirstFreeFor, new_assigned}
 use Rattle.hn_assign.specs.Unassigned.{IsMade}
 use Rattle.hn_rules.specs.declared.done.Done.{Done}

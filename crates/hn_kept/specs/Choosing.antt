@@ -5,9 +5,9 @@ use Rattle.std.specs.List.{filter}
 use Rattle.std.specs.Ordering.{is_lt, is_le}
 use Rattle.rand_chacha.specs.ChaCha.{ChaCha}
 use Rattle.hn_base.specs.Words.{Begins}
-use Rattle.hn_assign.specs.declared.assigned.Assigned.{Assigned}
-use Rattle.hn_assign.specs.declared.pair.Pair.{Pair}
-use Rattle.hn_assign.specs.Pair.{assigned_pair, pair_cmp}
+use Rattle.hn_pair.specs.declared.assigned.Assigned.{Assigned}
+use Rattle.hn_pair.specs.declared.pair.Pair.{Pair}
+use Rattle.hn_pair.specs.Pair.{assigned_pair, pair_cmp}
 use Rattle.hn_rules.specs.declared.state.State.{State}
 use Rattle.hn_rules.specs.declared.done.Done.{Done}
 use Rattle.hn_router.specs.Act.{PlainEvent, plain_event, Happened}

@@ -5,7 +5,7 @@ use Rattle.hn_base.specs.declared.ids.EpId.{EpId}
 use Rattle.hn_base.specs.declared.ids.NodeId.{NodeId}
 use Rattle.hn_advert.specs.declared.advert.Advert.{Advert}
 use Rattle.hn_advert.specs.Advert.{advert_bytes}
-use Rattle.hn_assign.specs.Pair.{IsAscending}
+use Rattle.hn_pair.specs.Pair.{IsAscending}
 use Rattle.hn_departed.specs.declared.departures.Told.{Told}
 use Rattle.hn_departed.specs.Departed.{with_departed, told_after, told_at, with_told}
 use Rattle.hn_rules.specs.declared.state.State.{State}

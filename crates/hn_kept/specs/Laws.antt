@@ -5,9 +5,9 @@ use Rattle.hn_base.specs.Words.{Took}
 use Rattle.hn_base.specs.Prefix.{IsPrefix, IsWithin}
 use Rattle.hn_rules.specs.Router.{IsRouter}
 use Rattle.hn_router.specs.Act.{PlainEvent, Tick}
-use Rattle.hn_assign.specs.declared.assigned.Assigned.{Assigned}
+use Rattle.hn_pair.specs.declared.assigned.Assigned.{Assigned}
 use Rattle.hn_assign.specs.declared.slot.Slot.{Slot}
-use Rattle.hn_assign.specs.Pair.{assigned_pair}
+use Rattle.hn_pair.specs.Pair.{assigned_pair}
 use Rattle.hn_assign.specs.Scene.{PlainScene, IsFreeFor, new_assigned}
 use Rattle.hn_assign.specs.Unassigned.{IsMade}
 use Rattle.hn_kept.specs.declared.preferred.Preferred.{Preferred}

@@ -3,8 +3,8 @@
 
 ghost use Rattle.std.specs.Prelude.{◌≡◌, ◌⊎◌, ◌^◌, ◌≤◌, true, false, Some, [], ◌∷◌, ◌++◌, Contains, IfOk, IfSome, IfNone};
 ghost use Rattle.std.specs.List.{list_any};
-ghost use Rattle.hn_assign.specs.declared.pair.Pair.{Pair};
-ghost use Rattle.hn_assign.specs.Pair.{IsAscending};
+ghost use Rattle.hn_pair.specs.declared.pair.Pair.{Pair};
+ghost use Rattle.hn_pair.specs.Pair.{IsAscending};
 ghost use Rattle.hn_kept.specs.Choosing.{plain_asked, EventComesTo, ComesWith, LeavesOver, Helps, IsTaker, MayBePassed, IsFirstHelped, AreChosen};
 ghost use Rattle.hn_kept.specs.Preferred.{preferred_pair, word_of, is_missed};
 ghost use Rattle.hn_kept.specs.Words.{listed_word};

@@ -1,5 +1,5 @@
 ghost use Rattle.std.specs.Prelude.{◌≡◌, ◌≢◌, ◌≤◌, ◌^◌, ◌+◌, [], length, nat_lt, true, false, OnOk, OnErr, IfOk};
-ghost use Rattle.hn_assign.specs.Pair.{IsAscending};
+ghost use Rattle.hn_pair.specs.Pair.{IsAscending};
 ghost use Rattle.hn_router.specs.Act.{plain_event, Tick};
 ghost use Rattle.hn_departed.specs.Departed.{told_at, told_but, with_earlier};
 ghost use Rattle.hn_kept.specs.Chosen.{ula_event, address_event, MakesUla, ChoosesAddresses};

@@ -1,5 +1,5 @@
 ghost use Rattle.std.specs.Prelude.{◌≡◌, ◌↔◌, true, [], IsTrue, IfOk};
-ghost use Rattle.hn_assign.specs.Pair.{IsAscending};
+ghost use Rattle.hn_pair.specs.Pair.{IsAscending};
 ghost use Rattle.hn_kept.specs.Choosing.{earlier_ones};
 ghost use Rattle.hn_kept.specs.Preferred.{preferred_pair, word_of, is_of_pair, is_kept, is_anew, is_missed, without_pair, before_pair, after_pair, with_preferred};
 
@@ -100,7 +100,7 @@ pub struct Preferences {
 
 impl Model for Preferences {
     ghost use Rattle.std.specs.Prelude.{List};
-    ghost use Rattle.hn_assign.specs.Pair.{IsAscending};
+    ghost use Rattle.hn_pair.specs.Pair.{IsAscending};
     ghost use Rattle.hn_kept.specs.declared.preferred.Preferred.{Preferred};
     ghost use Rattle.hn_kept.specs.Preferred.{preferred_pair};
 

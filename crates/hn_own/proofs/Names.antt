@@ -1,7 +1,7 @@
 -- The names that proofs of this crate cite most, handed on from one place. Declares nothing.
-pub use Rattle.hn_assign.specs.Facts.{HasOwnPriority}
-pub use Rattle.hn_assign.specs.declared.assigned.Assigned.{Assigned}
-pub use Rattle.hn_assign.specs.declared.held.Held.{Held}
+pub use Rattle.hn_pair.specs.Facts.{HasOwnPriority}
+pub use Rattle.hn_pair.specs.declared.assigned.Assigned.{Assigned}
+pub use Rattle.hn_pair.specs.declared.held.Held.{Held}
 pub use Rattle.hn_base.proofs.AscendingLists.{equal_from_is_eq, exact_lists, exact_nat}
 pub use Rattle.hn_base.proofs.FrontOfList.{filter-back, filter-front}
 pub use Rattle.hn_base.proofs.PassingElements.{map-unpassed}

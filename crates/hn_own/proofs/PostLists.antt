@@ -4,9 +4,9 @@ use Rattle.hn_base.proofs.Names.{length-map, All-filter, All-head, All-tail, IsS
 use Rattle.hn_own.proofs.Names.{EpId, Assigned, Held, HasOwnPriority, Port, without_private, number, ArePorts}
 use Rattle.std.specs.List.Sorted.{IsStrictlySortedBy}
 use Rattle.hn_base.proofs.AscendingLists.{sorted_parts}
-use Rattle.hn_assign.specs.declared.backoff.Backoff.{Backoff}
-use Rattle.hn_assign.specs.Facts.{IsInDelegated}
-use Rattle.hn_assign.specs.Pair.{pair_cmp, assigned_pair, backoff_pair}
+use Rattle.hn_pair.specs.declared.backoff.Backoff.{Backoff}
+use Rattle.hn_pair.specs.Facts.{IsInDelegated}
+use Rattle.hn_pair.specs.Pair.{pair_cmp, assigned_pair, backoff_pair}
 use Rattle.hn_own.specs.HeldPairs.{AreHeldPairs}
 use Rattle.hn_own.specs.Ports.{endpoints_of}
 use Rattle.hn_own.specs.Posts.{posts_of}

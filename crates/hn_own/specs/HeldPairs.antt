@@ -2,10 +2,10 @@
 use Rattle.std.specs.Prelude.{◌≤◌, ◌==◌, not, List, [], length, filter, All, Option}
 use Rattle.std.specs.Option.{option_map}
 use Rattle.std.specs.List.{filter_map}
-use Rattle.hn_assign.specs.declared.assigned.Assigned.{Assigned}
-use Rattle.hn_assign.specs.declared.held.Held.{Held}
-use Rattle.hn_assign.specs.Facts.{IsInDelegated, HasOwnPriority}
-use Rattle.hn_assign.specs.Pair.{IsAscending, assigned_pair, backoff_pair}
+use Rattle.hn_pair.specs.declared.assigned.Assigned.{Assigned}
+use Rattle.hn_pair.specs.declared.held.Held.{Held}
+use Rattle.hn_pair.specs.Facts.{IsInDelegated, HasOwnPriority}
+use Rattle.hn_pair.specs.Pair.{IsAscending, assigned_pair, backoff_pair}
 use Rattle.hn_data.specs.declared.said.AssignedPrefix.{AssignedPrefix}
 
 -- What holds of it: each pair has one assignment and one backoff at most, in ascending order. There are at most 544

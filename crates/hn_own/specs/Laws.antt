@@ -4,7 +4,7 @@ use Rattle.std.specs.Ordering.{on, nat_cmp}
 use Rattle.std.specs.List.Sorted.{IsStrictlySortedBy}
 use Rattle.hn_base.specs.declared.caps.Caps.{Caps}
 use Rattle.hn_base.specs.declared.ids.EpId.{EpId}
-use Rattle.hn_assign.specs.declared.held.Held.{Held}
+use Rattle.hn_pair.specs.declared.held.Held.{Held}
 use Rattle.hn_dncp.specs.declared.port.Port.{Port}
 use Rattle.hn_dncp.specs.Peers.{ArePeers}
 use Rattle.hn_own.specs.declared.own.OwnItems.{OwnItems}

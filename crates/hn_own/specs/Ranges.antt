@@ -3,8 +3,8 @@
 use Rattle.std.specs.Prelude.{◌<◌, ◌^◌, List, All}
 use Rattle.hn_base.specs.Prefix.{IsPrefix}
 use Rattle.hn_base.specs.declared.caps.Caps.{Caps}
-use Rattle.hn_assign.specs.declared.assigned.Assigned.{Assigned}
-use Rattle.hn_assign.specs.declared.held.Held.{Held}
+use Rattle.hn_pair.specs.declared.assigned.Assigned.{Assigned}
+use Rattle.hn_pair.specs.declared.held.Held.{Held}
 use Rattle.hn_dncp.specs.declared.peers.Neighbour.{Neighbour}
 use Rattle.hn_dncp.specs.declared.port.Port.{Port}
 use Rattle.hn_data.specs.declared.said.PeerLink.{PeerLink}

@@ -4,23 +4,23 @@ ghost use Rattle.std.specs.Prelude.{◌≡◌, ◌≤◌, length, All, IfOk};
 ghost use Rattle.hn_own.specs.HeldPairs.{AreHeldPairs, no_pairs, publication_of, published_in, without_private};
 
 use crate::posts::PRIVATE_POST;
-use hn_assign::{Assigned, Held, KeptIndex};
 use hn_base::{NoMemory, Sequence, Shared};
 use hn_data::AssignedPrefix;
+use hn_pair::{Assigned, Held};
 use std::alloc::Global;
 use std::marker::Model;
 
 /// The assignments and backoffs of a router: at most 544 assignments, each inside its delegated prefix, and with
 /// priority 2 where it is published. Contracts see the lists.
 #[derive(Drop)]
-pub struct HeldPairs {
+pub struct HeldPairs<I> {
     held: Held,
-    /// The index of the advertised prefixes with which they were made last, if one is kept.
-    index: Option<Shared<KeptIndex>>,
+    /// The index of the advertised prefixes with which they were made last, if one is kept. No rule here reads it.
+    index: Option<Shared<I>>,
 }
 
-impl Model for HeldPairs {
-    ghost use Rattle.hn_assign.specs.declared.held.Held.{Held};
+impl<I> Model for HeldPairs<I> {
+    ghost use Rattle.hn_pair.specs.declared.held.Held.{Held};
     ghost use Rattle.hn_own.specs.HeldPairs.{AreHeldPairs};
 
     ghost Value = { Held };
@@ -42,9 +42,9 @@ fn published_of(c: &Assigned) -> Option<AssignedPrefix>
     })
 }
 
-impl HeldPairs {
+impl<I: Drop> HeldPairs<I> {
     /// Nothing. Never allocates.
-    pub fn new(alloc: Global) -> HeldPairs
+    pub fn new(alloc: Global) -> HeldPairs<I>
         ensures { result ≡ no_pairs }
     {
         HeldPairs {
@@ -54,7 +54,7 @@ impl HeldPairs {
     }
 
     /// These assignments and backoffs. Never allocates.
-    pub fn of(held: Held) -> HeldPairs
+    pub fn of(held: Held) -> HeldPairs<I>
         requires { AreHeldPairs held }
         ensures { result ≡ held }
     {
@@ -67,7 +67,7 @@ impl HeldPairs {
     /// # Errors
     ///
     /// Out of memory.
-    pub fn then(&self, held: Held, index: Option<Shared<KeptIndex>>) -> Result<HeldPairs, NoMemory>
+    pub fn then(&self, held: Held, index: Option<Shared<I>>) -> Result<HeldPairs<I>, NoMemory>
         requires { AreHeldPairs held }
         ensures { IfOk result (λ next. next ≡ held) }
     {
@@ -79,7 +79,7 @@ impl HeldPairs {
     }
 
     /// The index that is kept, if one is. Never allocates.
-    pub fn index(&self) -> &Option<Shared<KeptIndex>> {
+    pub fn index(&self) -> &Option<Shared<I>> {
         &self.index
     }
 
@@ -96,7 +96,7 @@ impl HeldPairs {
     /// # Errors
     ///
     /// Out of memory.
-    pub fn without_private(&self, alloc: Global) -> Result<HeldPairs, NoMemory>
+    pub fn without_private(&self, alloc: Global) -> Result<HeldPairs<I>, NoMemory>
         ensures { IfOk result (λ held. held ≡ without_private self.now) }
     {
         let mut held = self.held.copy(alloc)?;

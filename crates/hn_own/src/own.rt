@@ -239,12 +239,12 @@ impl OwnItems {
     /// # Errors
     ///
     /// Out of memory.
-    pub fn of(
+    pub fn of<I: Drop>(
         alloc: Global,
         caps: Caps,
         ports: &Ports,
         delegated: &OwnPrefixes,
-        held: &HeldPairs,
+        held: &HeldPairs<I>,
         addresses: &Addresses,
     ) -> Result<OwnItems, NoMemory>
         ensures items { IfOk result (λ items. items ≡ record {

@@ -1,9 +1,9 @@
 -- The names that proofs of this crate cite most, handed on from one place. Declares nothing.
 pub use Rattle.hn_assign.specs.Best.{HasNoFree}
 pub use Rattle.hn_assign.specs.Gathered.{AreAdvertised}
-pub use Rattle.hn_assign.specs.Pair.{assigned_pair, pair_cmp}
-pub use Rattle.hn_assign.specs.declared.assigned.Advertised.{Advertised}
-pub use Rattle.hn_assign.specs.declared.assigned.Assigned.{Assigned}
+pub use Rattle.hn_pair.specs.Pair.{assigned_pair, pair_cmp}
+pub use Rattle.hn_assign.specs.declared.advertised.Advertised.{Advertised}
+pub use Rattle.hn_pair.specs.declared.assigned.Assigned.{Assigned}
 pub use Rattle.hn_audit.specs.Reached.{IsReached}
 pub use Rattle.hn_audit.specs.Settled.{IsSettledByRules}
 pub use Rattle.hn_audit.specs.Sound.{HasAssignment, UsesByRules}

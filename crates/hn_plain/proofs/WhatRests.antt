@@ -5,12 +5,12 @@ use Rattle.hn_plain.proofs.Names.{slice_get, Contains-map, all_of, contains_at, 
 use Rattle.hn_plain.proofs.Names.{AreAdvertised, assigned_pair, pair_cmp, Advertised, Assigned, IsRouter, seen_by, State, HasAssignment}
 use Rattle.hn_base.proofs.AtKey.{has_some}
 use Rattle.hn_assign.specs.Advertised.{key_of}
-use Rattle.hn_assign.specs.Facts.{HasOwnPriority}
+use Rattle.hn_pair.specs.Facts.{HasOwnPriority}
 use Rattle.hn_assign.specs.Fixed.{IsWishAtRest}
-use Rattle.hn_assign.specs.Pair.{IsWished, wish_pair}
+use Rattle.hn_pair.specs.Pair.{IsWished, wish_pair}
 use Rattle.hn_assign.specs.Rest.{IsAtRestWithout, IsAtRest}
-use Rattle.hn_assign.specs.declared.assigned.Wish.{Wish}
-use Rattle.hn_assign.specs.declared.pair.Pair.{Pair}
+use Rattle.hn_pair.specs.declared.assigned.Wish.{Wish}
+use Rattle.hn_pair.specs.declared.pair.Pair.{Pair}
 use Rattle.hn_own.specs.Posts.{posts_of}
 use Rattle.hn_rules.specs.Assigning.{IsWishFor, AreAsked}
 use Rattle.hn_audit.specs.Quiet.{IsRouterAtRest}

@@ -7,7 +7,7 @@ use Rattle.hn_typed.specs.Item.{PlainItem}
 use Rattle.hn_typed.specs.Table.{HasOtherKind}
 use Rattle.hn_data.specs.Items.{HasItems}
 use Rattle.hn_link.specs.CommonLink.{IsOnCommonLink}
-use Rattle.hn_assign.specs.declared.assigned.Advertised.{Advertised}
+use Rattle.hn_assign.specs.declared.advertised.Advertised.{Advertised}
 use Rattle.hn_assign.specs.Gathered.{IsAdvertised}
 use Rattle.hn_rules.specs.declared.state.State.{State}
 use Rattle.hn_rules.specs.Router.{IsRouter}

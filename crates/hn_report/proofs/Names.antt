@@ -1,5 +1,5 @@
 -- The names that proofs of this crate cite most, handed on from one place. Declares nothing.
-pub use Rattle.hn_assign.specs.declared.assigned.Assigned.{Assigned}
+pub use Rattle.hn_pair.specs.declared.assigned.Assigned.{Assigned}
 pub use Rattle.hn_base.specs.YesNo.{yes_no}
 pub use Rattle.hn_base.specs.declared.name.Name.{Name}
 pub use Rattle.hn_own.specs.Addresses.{OwnAddress}

@@ -8,7 +8,7 @@ use Rattle.hn_base.specs.declared.ids.NodeId.{NodeId}
 use Rattle.hn_base.specs.declared.letter.Letter.{Letter}
 use Rattle.hn_base.specs.declared.name.Name.{Name}
 use Rattle.hn_prefix.specs.PrefixText.{prefix_text_of}
-use Rattle.hn_assign.specs.declared.assigned.Assigned.{Assigned}
+use Rattle.hn_pair.specs.declared.assigned.Assigned.{Assigned}
 use Rattle.hn_deleg.specs.declared.delegated.Delegated.{Delegated}
 use Rattle.hn_deleg.specs.Used.{AreUsable, whole_seconds}
 use Rattle.hn_rules.specs.Seen.{seen_by, IsElectedAt}

@@ -2,7 +2,7 @@
 use Rattle.hn_base.proofs.Names.{◌≤◌, ℕ, inl, inr, sym, subst}
 use Rattle.hn_router.proofs.Names.{IsRouter, begun_at, at_moment, IsTick, Done, Running, State, Tick, IsEvent}
 use Rattle.hn_assign.specs.Fixed.{AreAssignmentsUnchanged}
-use Rattle.hn_assign.specs.declared.held.Ran.{Ran}
+use Rattle.hn_assign.specs.declared.ran.Ran.{Ran}
 use Rattle.hn_rules.specs.Assigning.{IsRunAssigned}
 use Rattle.hn_rules.specs.KeptAtRest.{IsKeptAtRest, CalmTick}
 use Rattle.hn_rules.specs.Undue.{IsKeptUndue}

@@ -1,7 +1,7 @@
 -- What a new router publishes, and the hash of its network state.
 use Rattle.hn_base.proofs.Names.{◌≡◌, ◌∙◌, ℕ, List, [], ◌∷◌, filter_map, ap, sym, refl, eq-eqb}
 use Rattle.hn_router.proofs.Names.{NodeId, Port, Caps, OwnItems, OwnPrefix, OwnAddress, links_of, no_pairs}
-use Rattle.hn_assign.specs.declared.held.Held.{Held}
+use Rattle.hn_pair.specs.declared.held.Held.{Held}
 use Rattle.hn_hash.specs.declared.part.Part.{Part}
 use Rattle.hn_own.specs.HeldPairs.{published_in}
 use Rattle.hn_store.specs.Acceptance.{known_of}

@@ -7,7 +7,7 @@ use Rattle.hn_router.proofs.Names.{seen_by, AreInfos, IsInfoFrom, HasNoInfo, pre
 use Rattle.std.specs.List.Sorted.{IsStrictlySortedBy}
 use Rattle.hn_base.proofs.AscendingLists.{Contains-map, Contains-from_map, sorted_push}
 use Rattle.hn_base.proofs.PartsAtPlaces.{one_of_ascending}
-use Rattle.hn_assign.specs.Pair.{pair_cmp}
+use Rattle.hn_pair.specs.Pair.{pair_cmp}
 use Rattle.hn_deleg.specs.Used.{prefixes_of, whole_seconds}
 use Rattle.hn_base.proofs.FrontOfList.{front_at}
 

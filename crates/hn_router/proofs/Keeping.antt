@@ -4,7 +4,7 @@ use Rattle.hn_base.proofs.Names.{◌≡◌, ◌∙◌, ◌<◌, ◌≤◌, ℕ, 
 use Rattle.hn_router.proofs.Names.{Delegated, Done, Running, State, nothing, after_passing, IsNextDue, IsIdleTick, RouterStaysLater, IsRouter, IsSole}
 use Rattle.hn_router.proofs.Names.{begun_at, at_moment, IsTick, PlainEvent, Tick, IsEvent}
 use Rattle.hn_router.proofs.Names.{DidNothing, IsDueAfter, IsKeptRouter}
-use Rattle.hn_assign.specs.declared.assigned.Wish.{Wish}
+use Rattle.hn_pair.specs.declared.assigned.Wish.{Wish}
 use Rattle.hn_rules.specs.Assigning.{AreAsked}
 use Rattle.hn_rules.specs.declared.arrival.passing.Passing.{Passing}
 use Rattle.hn_rules.specs.Due.{IsUndueUntil}

@@ -1,9 +1,9 @@
 -- The names that proofs of this crate cite most, handed on from one place. Declares nothing.
 pub use Rattle.hn_advert.specs.Advert.{advert_bytes}
 pub use Rattle.hn_advert.specs.declared.advert.Info.{Info}
-pub use Rattle.hn_assign.specs.Facts.{IsInDelegated}
-pub use Rattle.hn_assign.specs.Pair.{IsAscending, assigned_pair}
-pub use Rattle.hn_assign.specs.declared.assigned.Assigned.{Assigned}
+pub use Rattle.hn_pair.specs.Facts.{IsInDelegated}
+pub use Rattle.hn_pair.specs.Pair.{IsAscending, assigned_pair}
+pub use Rattle.hn_pair.specs.declared.assigned.Assigned.{Assigned}
 pub use Rattle.hn_base.proofs.AscendingLists.{nothing_in, sorted_parts}
 pub use Rattle.hn_base.proofs.PartsAtPlaces.{contains_at}
 pub use Rattle.hn_base.proofs.Prefixes.{prefix_total}

@@ -5,8 +5,8 @@ use Rattle.hn_router.proofs.Names.{IsPrivateLength, IsWell}
 use Rattle.std.specs.Prelude.{Contains, ◌↔◌}
 use Rattle.std.specs.List.Sorted.{IsStrictlySortedBy}
 use Rattle.hn_data.specs.declared.said.PeerLink.{PeerLink}
-use Rattle.hn_assign.specs.declared.held.Held.{Held}
-use Rattle.hn_assign.specs.Facts.{HasOwnPriority, IsAssignedPast, IsSoonDue}
+use Rattle.hn_pair.specs.declared.held.Held.{Held}
+use Rattle.hn_pair.specs.Facts.{HasOwnPriority, IsAssignedPast, IsSoonDue}
 use Rattle.hn_data.specs.View.{IsNetwork}
 use Rattle.hn_graph.specs.Path.{IsReachable}
 use Rattle.hn_graph.specs.Laws.{OwnIsReachable, ReachableIsANode}

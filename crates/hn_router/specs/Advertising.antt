@@ -12,7 +12,7 @@ use Rattle.hn_typed.specs.Item.{PlainCaps}
 use Rattle.hn_data.specs.Items.{HasItems}
 use Rattle.hn_data.specs.Said.{version_of}
 use Rattle.hn_data.specs.declared.view.Entry.{Entry}
-use Rattle.hn_assign.specs.declared.assigned.Assigned.{Assigned}
+use Rattle.hn_pair.specs.declared.assigned.Assigned.{Assigned}
 use Rattle.hn_deleg.specs.declared.delegated.Delegated.{Delegated}
 use Rattle.hn_deleg.specs.Used.{AreUsable, IsOutside, whole_seconds}
 use Rattle.hn_rules.specs.declared.state.State.{State}

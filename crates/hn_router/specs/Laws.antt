@@ -26,7 +26,7 @@ use Rattle.hn_rules.specs.Assigning.{IsRunAssigned}
 use Rattle.hn_rules.specs.KeptAtRest.{IsKeptAtRest}
 use Rattle.hn_rules.specs.Undue.{at_moment, IsKeptUndue}
 use Rattle.hn_assign.specs.Fixed.{AreAssignmentsUnchanged}
-use Rattle.hn_assign.specs.declared.held.Ran.{Ran}
+use Rattle.hn_assign.specs.declared.ran.Ran.{Ran}
 
 -- From one state, with one event, moment and stream of words, there is at most one result.
 abbrev pub OneResult : Type 0

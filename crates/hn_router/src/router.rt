@@ -42,10 +42,10 @@ use hn_dncp::Port;
 use hn_hash::{Leaf, Part, network_of};
 use hn_io::Draw;
 use hn_link::{common, elected};
-use hn_own::{Addresses, HeldPairs, OwnData, OwnItems, OwnPrefixes, Ports};
+use hn_own::{Addresses, OwnData, OwnItems, OwnPrefixes, Ports};
 use hn_prefix::Prefix;
 use hn_rules::{
-    Done, Origin, Passing, Present, Running, State, idle_is_undue, idle_until_due,
+    Done, HeldPairs, Origin, Passing, Present, Running, State, idle_is_undue, idle_until_due,
     idle_while_undue, passing_keeps_undue, router_stays_later, rules_have_one_result,
     undue_is_idle, view_is_a_network,
 };

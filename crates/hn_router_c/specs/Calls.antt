@@ -14,7 +14,7 @@ use Rattle.hn_store.specs.declared.stored.HeldNode.{HeldNode}
 use Rattle.hn_rules.specs.declared.state.State.{State}
 use Rattle.hn_rules.specs.declared.done.Outgoing.{Outgoing}
 use Rattle.hn_rules.specs.declared.done.Note as noted
-use Rattle.hn_assign.specs.declared.assigned.Assigned as assign
+use Rattle.hn_pair.specs.declared.assigned.Assigned as assign
 use Rattle.hn_rules.specs.Seen.{seen_by, IsElectedAt}
 use Rattle.hn_router.specs.Advertising.{IsAdvertBytes}
 use Rattle.hn_advert.specs.Reading.{HasOptions}

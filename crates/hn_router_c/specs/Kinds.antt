@@ -8,7 +8,7 @@ use Rattle.hn_base.specs.declared.letter.Letter.{Letter}
 use Rattle.hn_base.specs.declared.letter.Letter.TheVariants as letter
 use Rattle.hn_own.specs.Addresses.{OwnAddress}
 use Rattle.hn_deleg.specs.declared.delegated.Delegated.{Delegated}
-use Rattle.hn_assign.specs.declared.assigned.Assigned as assign
+use Rattle.hn_pair.specs.declared.assigned.Assigned as assign
 use Rattle.hn_store.specs.declared.state.Took.{Took}
 use Rattle.hn_store.specs.declared.state.Took.TheVariants as took
 use Rattle.hn_dncp.specs.declared.peers.Neighbour.{Neighbour}

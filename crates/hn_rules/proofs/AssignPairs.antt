@@ -2,9 +2,9 @@
 use Rattle.hn_base.proofs.Names.{◌≡◌, ◌↔◌, ℕ, List, Contains, sym, subst, All, IsTotalOrder, All-contains, IsExact}
 use Rattle.hn_rules.proofs.Names.{EpId, PlainView, Delegated, AreUsable, Wish, Held, IsInDelegated, HasOwnPriority, assigned_pair, pair_cmp, IsAscending, IsWished, IsSubroutine}
 use Rattle.hn_rules.proofs.Names.{AssignedAreWished, AreHeldPairs, FewPosts, ArePorts, posts_of, State, seen_by, IsWishAt, AreAsked, IsRunAssigned}
-use Rattle.hn_assign.specs.declared.held.Ran.{Ran}
-use Rattle.hn_assign.specs.Facts.{AreWishes}
-use Rattle.hn_assign.specs.Pair.{backoff_pair}
+use Rattle.hn_assign.specs.declared.ran.Ran.{Ran}
+use Rattle.hn_pair.specs.Facts.{AreWishes}
+use Rattle.hn_pair.specs.Pair.{backoff_pair}
 use Rattle.hn_rules.proofs.LawPairs.{wished_few}
 
 -- ---- what is asked

@@ -2,7 +2,7 @@
 use Rattle.hn_base.proofs.Names.{◌≡◌, ◌∙◌, ◌++◌, ℕ, List, Option, Decides, sym, ap, subst, ◌==◌, ◌&&◌, Decides-and, Decides-like, Decides-eqb, Drew, Took}
 use Rattle.hn_rules.proofs.Names.{Backoff, Contains, EpId, Held, Port, endpoints_of, Running, State, IsWishAt, IsRunAssigned, IsAssigning, seen_by, IsSubroutine}
 use Rattle.hn_rules.proofs.Names.{Wish, PlainView, AreUsable, Nodes, Ran, with_words, IsRefreshed}
-use Rattle.hn_assign.specs.declared.held.Ran.{Ran as Left}
+use Rattle.hn_assign.specs.declared.ran.Ran.{Ran as Left}
 use Rattle.hn_own.specs.Posts.{private_posts}
 use Rattle.hn_base.proofs.Prefixes.{is_one_prefix, prefix_decided}
 

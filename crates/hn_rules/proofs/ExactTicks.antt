@@ -13,7 +13,7 @@ use Rattle.hn_base.proofs.SomeResult.{total_drawn, total_from}
 use Rattle.hn_typed.specs.Item as item
 use Rattle.hn_deleg.specs.Laws.{UsableIsUnique}
 use Rattle.hn_dncp.specs.Laws.{PackingIsUnique}
-use Rattle.hn_assign.specs.declared.held.Ran.{Ran as Assigned}
+use Rattle.hn_assign.specs.declared.ran.Ran.{Ran as Assigned}
 use Rattle.hn_assign.specs.Laws.{SubroutineHasOneResult}
 use Rattle.hn_rules.specs.Rules.{IsExactRule}
 use Rattle.hn_rules.proofs.ExactRefreshes.{RefreshLaws, Well, Any, CanPublish, can_publish, exact_attached, exact_ports, exact_publishes, exact_refresh, exact_taking}

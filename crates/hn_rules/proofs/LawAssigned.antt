@@ -1,7 +1,7 @@
 -- Assignments and backoffs stay what a router holds when prefixes are assigned.
 use Rattle.hn_base.proofs.Names.{IsTotalOrder, All-contains, IsExact}
 use Rattle.hn_rules.proofs.Names.{IsWished, assigned_pair, pair_cmp, AssignedAreWished, FewPosts, ArePorts, State, IsRunAssigned, seen_by}
-use Rattle.hn_assign.specs.declared.held.Ran.{Ran as Assigned}
+use Rattle.hn_assign.specs.declared.ran.Ran.{Ran as Assigned}
 use Rattle.hn_assign.specs.Laws.{SubroutineKeepsInside, SubroutineKeepsPast, SubroutineKeepsPriority, AssignedAscend, BackoffsAscend}
 use Rattle.hn_rules.proofs.LawPairs.{wished_few}
 use Rattle.hn_rules.proofs.PartsOfRouters.{AreHeldWell}

@@ -1,14 +1,14 @@
 -- The names that proofs of this crate cite most, handed on from one place. Declares nothing.
-pub use Rattle.hn_assign.specs.Due.{IsHeldDue}
-pub use Rattle.hn_assign.specs.Facts.{HasOwnPriority, IsAssignedPast, IsInDelegated}
+pub use Rattle.hn_pair.specs.Due.{IsHeldDue}
+pub use Rattle.hn_pair.specs.Facts.{HasOwnPriority, IsAssignedPast, IsInDelegated}
 pub use Rattle.hn_assign.specs.Laws.{AssignedAreWished, SubroutineKeepsLengths, SubroutineKeepsPrefixes, SubroutineKeepsSoon}
-pub use Rattle.hn_assign.specs.Pair.{IsAscending, IsWished, assigned_pair, pair_cmp, wish_pair}
+pub use Rattle.hn_pair.specs.Pair.{IsAscending, IsWished, assigned_pair, pair_cmp, wish_pair}
 pub use Rattle.hn_assign.specs.Subroutine.{IsSubroutine}
-pub use Rattle.hn_assign.specs.declared.assigned.Assigned.{Assigned}
-pub use Rattle.hn_assign.specs.declared.assigned.Wish.{Wish}
-pub use Rattle.hn_assign.specs.declared.backoff.Backoff.{Backoff}
-pub use Rattle.hn_assign.specs.declared.held.Held.{Held}
-pub use Rattle.hn_assign.specs.declared.pair.Pair.{Pair}
+pub use Rattle.hn_pair.specs.declared.assigned.Assigned.{Assigned}
+pub use Rattle.hn_pair.specs.declared.assigned.Wish.{Wish}
+pub use Rattle.hn_pair.specs.declared.backoff.Backoff.{Backoff}
+pub use Rattle.hn_pair.specs.declared.held.Held.{Held}
+pub use Rattle.hn_pair.specs.declared.pair.Pair.{Pair}
 pub use Rattle.hn_base.proofs.AscendingLists.{Contains-cases, Contains-from_map, Contains-head, Contains-map, Contains-one, Contains-tail, nothing_in, sorted_parts}
 pub use Rattle.hn_base.proofs.AscendingNumbers.{ascending-around}
 pub use Rattle.hn_base.proofs.BigEndian.{number_bytes}

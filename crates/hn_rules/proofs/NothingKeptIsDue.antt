@@ -5,7 +5,7 @@ use Rattle.hn_rules.proofs.Names.{Contains, NodeId, Assigned, Held, PlainView, A
 use Rattle.hn_rules.proofs.Names.{remembered, held, HeldNode, Stored, Running, State, IsRunAssigned, ending, held_entry, own_entry, entry_of, own_items, IsRefresh, IsRefreshed, IsJustRefreshed, IsRouter}
 use Rattle.hn_rules.proofs.Names.{AtPort, IsSole, begun_at, with_words, seen_by, at_moment, IsKeptUndue, IsExpiry, forgetting, IsPortTick, IsLosing, IsSettling, IsTick, from_filter}
 use Rattle.hn_assign.specs.Fixed.{AreAssignmentsUnchanged, unmarked}
-use Rattle.hn_assign.specs.declared.held.Ran.{Ran}
+use Rattle.hn_assign.specs.declared.ran.Ran.{Ran}
 use Rattle.hn_own.specs.HeldPairs.{published_in, publication_of}
 use Rattle.hn_rules.specs.KeptAtRest.{IsKeptAtRest, CalmTick}
 use Rattle.hn_rules.specs.Updates.{LeavesAges, CalmTickLeavesAges}

@@ -5,8 +5,8 @@ use Rattle.hn_rules.proofs.Names.{Contains, NodeId, EpId, Contains-head, Contain
 use Rattle.hn_rules.proofs.Names.{Pair, SubroutineKeepsLengths, AssignedAreWished, IsWished, assigned_pair, Port, IsOwnData, link_at, links_at, links_of, ArePorts, endpoints_of, private_post}
 use Rattle.hn_rules.proofs.Names.{posts_of, length_at, State, IsRunAssigned, own_entry, entry_of, view_of, seen_by}
 use Rattle.hn_link.specs.CommonLink.{IsOnCommonLink, IsLinkedWithOwn}
-use Rattle.hn_assign.specs.declared.held.Ran.{Ran}
-use Rattle.hn_assign.specs.Facts.{IsOfLengthAt, IsAloneAt}
+use Rattle.hn_assign.specs.declared.ran.Ran.{Ran}
+use Rattle.hn_pair.specs.Facts.{IsOfLengthAt, IsAloneAt}
 use Rattle.hn_rules.specs.Laws.{OwnPeersAreOfEndpoints, PrivatePostIsAlone}
 use Rattle.hn_rules.proofs.Entries.{entry_own, entry_named}
 use Rattle.hn_rules.proofs.LawPublished.{ReadLaws, peer_from}

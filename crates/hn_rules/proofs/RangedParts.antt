@@ -6,8 +6,8 @@ use Rattle.hn_rules.proofs.Names.{SubroutineKeepsSoon, IsWished, assigned_pair, 
 use Rattle.hn_rules.proofs.Names.{own_prefix, ArePorts, is_port, put_port, attached, endpoints_of, private_post, posts_of, IsRangedAddress, Running, State, IsRunAssigned, PortChange, Reset, Meet, Ask}
 use Rattle.hn_rules.proofs.Names.{Hear, Expire, Move, Begin, port_after, MayChangePort, PrefixChange, Delegate, Withdraw, End, prefixes_after, MayChangePrefixes, Change, ChangePort, ChangePrefixes}
 use Rattle.hn_rules.proofs.Names.{PutPairs, ForgetPairs, PutPrivate, PutAddresses, change, IsAllowed, IsAttaching, detaching, IsPrivateLength, IfThere, IsWell, seen_by, IsExpired}
-use Rattle.hn_assign.specs.declared.held.Ran.{Ran}
-use Rattle.hn_assign.specs.Facts.{IsSoonDue}
+use Rattle.hn_assign.specs.declared.ran.Ran.{Ran}
+use Rattle.hn_pair.specs.Facts.{IsSoonDue}
 use Rattle.hn_own.specs.Lifetimes.{end_after}
 use Rattle.hn_own.specs.OwnPrefixes.{is_before}
 use Rattle.hn_own.specs.Posts.{private_posts}

@@ -12,8 +12,8 @@ use Rattle.hn_base.proofs.SoOrNot.{Decided, one_or_none}
 use Rattle.hn_deleg.specs.Laws.{UsableExists, UsableArePrefixes}
 use Rattle.hn_deleg.specs.Used.{IsOutermost}
 use Rattle.hn_link.specs.Laws.{CommonLinkExists}
-use Rattle.hn_assign.specs.declared.held.Ran.{Ran as Assigned}
-use Rattle.hn_assign.specs.Facts.{IsFitting}
+use Rattle.hn_assign.specs.declared.ran.Ran.{Ran as Assigned}
+use Rattle.hn_pair.specs.Facts.{IsFitting}
 use Rattle.hn_assign.specs.Laws.{SubroutineHasAResult}
 use Rattle.hn_rules.specs.Assigning.{IsWishFor}
 use Rattle.hn_rules.specs.Laws.{AssigningHasAResult, WishesExist}

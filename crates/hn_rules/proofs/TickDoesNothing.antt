@@ -5,7 +5,7 @@ use Rattle.hn_rules.proofs.Names.{nat_le, Contains, all_of, NodeId, Held, Entry,
 use Rattle.hn_rules.proofs.Names.{has_ended_one, ArePorts, OwnItems, OwnPrefix, is_among, is_forgotten, lost_after, loss_marked, marked_node, remembered, Nodes, HeldNode, Done, Running, State}
 use Rattle.hn_rules.proofs.Names.{IsRunAssigned, IsAssigning, ending, nothing, IsLeft, UndueStays, NextDueStays, held_entry, own_entry, held_entries, nodes_of, IsReach, own_items, IsPublished}
 use Rattle.hn_rules.proofs.Names.{IsRefresh, IsRouter, IsSole, begun_at, at_moment, AreHeard, IsExpiry, forgetting, IsPortsTick, IsTick}
-use Rattle.hn_assign.specs.declared.held.Ran.{Ran as Assigned}
+use Rattle.hn_assign.specs.declared.ran.Ran.{Ran as Assigned}
 use Rattle.hn_deleg.specs.Laws.{EndsOfLater}
 use Rattle.hn_store.specs.Laws.{HeldIsOfAnEntry, NoneIsForgotten}
 use Rattle.hn_rules.specs.Idle.{IsIdleTick}

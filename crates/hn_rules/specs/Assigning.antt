@@ -5,9 +5,9 @@ use Rattle.hn_data.specs.View.{PlainView}
 use Rattle.hn_deleg.specs.declared.delegated.Delegated.{Delegated}
 use Rattle.hn_deleg.specs.Used.{AreUsable, IsUnwanted}
 use Rattle.hn_link.specs.CommonLink.{IsCommonLink}
-use Rattle.hn_assign.specs.declared.assigned.Wish.{Wish}
-use Rattle.hn_assign.specs.declared.held.Ran.{Ran as Assigned}
-use Rattle.hn_assign.specs.Pair.{IsAscending, wish_pair}
+use Rattle.hn_pair.specs.declared.assigned.Wish.{Wish}
+use Rattle.hn_assign.specs.declared.ran.Ran.{Ran as Assigned}
+use Rattle.hn_pair.specs.Pair.{IsAscending, wish_pair}
 use Rattle.hn_assign.specs.Subroutine.{IsSubroutine}
 use Rattle.hn_rules.specs.declared.running.Running.{Running}
 use Rattle.hn_rules.specs.declared.state.State.{State}

@@ -25,7 +25,7 @@ use Rattle.hn_store.specs.Nodes.{Nodes}
 use Rattle.hn_store.specs.Acceptance.{PlainState, Accepts}
 use Rattle.hn_store.specs.Loss.{loss_marked, remembered}
 use Rattle.hn_store.specs.declared.state.Took.{Took}
-use Rattle.hn_assign.specs.declared.held.Ran.{Ran as Assigned}
+use Rattle.hn_assign.specs.declared.ran.Ran.{Ran as Assigned}
 use Rattle.hn_own.specs.Own.{IsOwnData, PlainData}
 use Rattle.hn_own.specs.Addresses.{OwnAddress, may_address}
 use Rattle.hn_own.specs.HeldPairs.{no_pairs, without_private}

@@ -10,7 +10,7 @@ use Rattle.hn_store.specs.Nodes.{held}
 use Rattle.hn_store.specs.declared.stored.HeldNode.{HeldNode}
 use Rattle.hn_graph.specs.Later.{IsAgeLimit}
 use Rattle.hn_deleg.specs.Due.{IsLifetimeEnd}
-use Rattle.hn_assign.specs.Due.{IsHeldDue}
+use Rattle.hn_pair.specs.Due.{IsHeldDue}
 use Rattle.hn_own.specs.Due.{IsOwnEnd}
 use Rattle.hn_rules.specs.declared.state.State.{State}
 use Rattle.hn_rules.specs.Nodes.{view_of}

@@ -2,7 +2,7 @@
 use Rattle.std.specs.Prelude.{◌≡◌, ℕ, ◌≤◌, List, Contains}
 use Rattle.hn_base.specs.declared.ids.NodeId.{NodeId}
 use Rattle.hn_assign.specs.Fixed.{AreAssignmentsUnchanged}
-use Rattle.hn_assign.specs.declared.held.Ran.{Ran}
+use Rattle.hn_assign.specs.declared.ran.Ran.{Ran}
 use Rattle.hn_data.specs.Later.{IsLater}
 use Rattle.hn_deleg.specs.Used.{AreUsable, IsUnwanted, prefixes_of}
 use Rattle.hn_deleg.specs.declared.delegated.Delegated.{Delegated}

@@ -16,10 +16,10 @@ use Rattle.hn_data.specs.declared.view.Entry.{Entry}
 use Rattle.hn_deleg.specs.declared.delegated.Delegated.{Delegated}
 use Rattle.hn_deleg.specs.Used.{AreUsable, prefixes_of}
 use Rattle.hn_link.specs.CommonLink.{IsOnCommonLink}
-use Rattle.hn_assign.specs.declared.assigned.Wish.{Wish}
-use Rattle.hn_assign.specs.declared.pair.Pair.{Pair}
-use Rattle.hn_assign.specs.Facts.{IsFitting}
-use Rattle.hn_assign.specs.Pair.{wish_pair}
+use Rattle.hn_pair.specs.declared.assigned.Wish.{Wish}
+use Rattle.hn_pair.specs.declared.pair.Pair.{Pair}
+use Rattle.hn_pair.specs.Facts.{IsFitting}
+use Rattle.hn_pair.specs.Pair.{wish_pair}
 use Rattle.hn_own.specs.Addresses.{OwnAddress, may_address}
 use Rattle.hn_own.specs.HeldPairs.{published_in}
 use Rattle.hn_own.specs.Own.{items_of}

@@ -7,8 +7,8 @@ use Rattle.hn_store.specs.Nodes.{held, IsTable}
 use Rattle.hn_store.specs.Loss.{is_among}
 use Rattle.hn_store.specs.declared.stored.HeldNode.{HeldNode}
 use Rattle.hn_rules.specs.declared.state.State.{State}
-use Rattle.hn_assign.specs.Facts.{IsAssignedPast, IsSoonDue}
-use Rattle.hn_assign.specs.declared.held.Held.{Held}
+use Rattle.hn_pair.specs.Facts.{IsAssignedPast, IsSoonDue}
+use Rattle.hn_pair.specs.declared.held.Held.{Held}
 use Rattle.hn_own.specs.declared.own_prefixes.OwnPrefix.{OwnPrefix}
 use Rattle.hn_own.specs.Addresses.{AreAddresses}
 use Rattle.hn_own.specs.Own.{IsOwnData, links_of}

@@ -4,7 +4,7 @@ ghost use Rattle.std.specs.Prelude.{◌≡◌, ◌<◌, ◌≤◌, ◌⊎◌, �
 ghost use Rattle.hn_data.specs.View.{IsNetwork, plain_view};
 ghost use Rattle.hn_deleg.specs.Used.{AreUsable};
 ghost use Rattle.hn_base.specs.Words.{Took};
-ghost use Rattle.hn_assign.specs.declared.assigned.Wish.{Wish};
+ghost use Rattle.hn_pair.specs.declared.assigned.Wish.{Wish};
 ghost use Rattle.hn_assign.specs.Subroutine.{IsSubroutine};
 ghost use Rattle.hn_rules.specs.Nodes.{view_of};
 ghost use Rattle.hn_rules.specs.Router.{IsRouter, IsRefreshed};

@@ -11,10 +11,11 @@ ghost use Rattle.hn_rules.specs.Events.{IsAttaching, detaching, setting_caps, se
 ghost use Rattle.hn_rules.specs.Events.{IsPortRestart, emptied, IsRestarting};
 
 use crate::running::Running;
+use crate::state::HeldPairs;
 use hn_base::{Caps, EpId, LinkLength, NoMemory, Shared};
 use hn_dncp::Port;
 use hn_io::Draw;
-use hn_own::{Addresses, HeldPairs, addresses_stay};
+use hn_own::{Addresses, addresses_stay};
 use hn_store::Table;
 use std::alloc::Global;
 

@@ -42,4 +42,4 @@ pub use laws::{
 };
 pub use present::Present;
 pub use running::{Origin, Running};
-pub use state::State;
+pub use state::{HeldPairs, State};

@@ -1,9 +1,13 @@
 ghost use Rattle.std.specs.Prelude.{◌≡◌, IfOk};
 
 use crate::present::Present;
+use hn_assign::KeptIndex;
 use hn_base::{Caps, LinkLength, Moment, NoMemory, NodeId, NodeIds, Shared};
-use hn_own::{Addresses, HeldPairs, OwnData, OwnPrefixes, Ports};
+use hn_own::{Addresses, OwnData, OwnPrefixes, Ports};
 use hn_store::Table;
+
+/// The assignments and backoffs of a router, with the index that the assignment subroutine keeps.
+pub type HeldPairs = hn_own::HeldPairs<KeptIndex>;
 
 /// The fields of a router.
 #[derive(Drop)]

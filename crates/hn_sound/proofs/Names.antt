@@ -2,9 +2,9 @@
 pub use Rattle.hn_assign.specs.Advertised.{IsAdvertisedOnLink, LinkEndpoints, advertised_cmp, key_of}
 pub use Rattle.hn_assign.specs.Best.{HasNoBest, HasNoFree, IsBest, IsCandidatePrefix, IsFreeIn, IsValid}
 pub use Rattle.hn_assign.specs.Rest.{IsAheadOfBest, IsAtRest, IsFollowing, IsAtRestWithout}
-pub use Rattle.hn_assign.specs.declared.assigned.Advertised.{Advertised}
-pub use Rattle.hn_assign.specs.declared.assigned.Assigned.{Assigned}
-pub use Rattle.hn_assign.specs.declared.assigned.Wish.{Wish}
+pub use Rattle.hn_assign.specs.declared.advertised.Advertised.{Advertised}
+pub use Rattle.hn_pair.specs.declared.assigned.Assigned.{Assigned}
+pub use Rattle.hn_pair.specs.declared.assigned.Wish.{Wish}
 pub use Rattle.hn_base.proofs.AscendingLists.{Contains-cases, Contains-head, nothing_in}
 pub use Rattle.hn_base.proofs.Elements.{any_of, from_filter, in_filter}
 pub use Rattle.hn_base.proofs.Keys.{key_total, same_id, same_node}

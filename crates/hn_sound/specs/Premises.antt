@@ -2,7 +2,7 @@
 -- home: if it is published, it is advertised, and no more.
 use Rattle.std.specs.Prelude.{◌≡◌, ◌≢◌, ℕ, ◌≤◌, Contains}
 use Rattle.hn_base.specs.Prefix.{PlainPrefix, IsWithin, Overlaps}
-use Rattle.hn_assign.specs.declared.assigned.Assigned.{Assigned}
+use Rattle.hn_pair.specs.declared.assigned.Assigned.{Assigned}
 use Rattle.hn_sound.specs.Home.{Home, Endpoint, EndpointHasAssignment, HasPublished}
 
 pub data Premise : Type 0 where

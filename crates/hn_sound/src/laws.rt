@@ -4,7 +4,7 @@
 
 ghost use Rattle.std.specs.Prelude.{◌≡◌, ◌≢◌, ◌⊎◌, ℕ, IsTrue, Contains};
 ghost use Rattle.hn_base.specs.Prefix.{PlainPrefix, IsWithin, Overlaps};
-ghost use Rattle.hn_assign.specs.declared.assigned.Assigned.{Assigned};
+ghost use Rattle.hn_pair.specs.declared.assigned.Assigned.{Assigned};
 ghost use Rattle.hn_assign.specs.Best.{IsBest, HasNoBest, HasNoFree};
 ghost use Rattle.hn_sound.specs.AtRest.{IsHomeAtRest};
 ghost use Rattle.hn_sound.specs.Home.{Home, Endpoint, EndpointHasAssignment, HasPublished, advertised, common_link, key_at};

@@ -1,5 +1,5 @@
 -- The names that proofs of this crate cite most, handed on from one place. Declares nothing.
-pub use Rattle.hn_assign.specs.declared.assigned.Assigned.{Assigned}
+pub use Rattle.hn_pair.specs.declared.assigned.Assigned.{Assigned}
 pub use Rattle.hn_data.specs.Delegations.{HasDelegation}
 pub use Rattle.hn_data.specs.Said.{HasVersion}
 pub use Rattle.hn_data.specs.View.{PlainView, plain_view}

@@ -1,7 +1,7 @@
 -- What a router holds, one part after another.
 use Rattle.hn_base.proofs.Names.{◌≡◌, ◌∙◌, ℕ, List, ◌++◌, Result, Ok, Err, append_assoc, OnOk, flat_map}
 use Rattle.hn_table.proofs.Names.{Assigned, HeldNode, Member, table_line, peers_lines, held_line, assigned_line, backoff_line}
-use Rattle.hn_assign.specs.declared.backoff.Backoff.{Backoff}
+use Rattle.hn_pair.specs.declared.backoff.Backoff.{Backoff}
 use Rattle.hn_dncp.specs.declared.port.Port.{Port}
 use Rattle.hn_table.specs.Table.{held_lines}
 

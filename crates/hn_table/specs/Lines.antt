@@ -2,8 +2,8 @@
 use Rattle.std.specs.Prelude.{ℕ, Bool, if◌then◌else◌, List, [], ◌∷◌, ◌++◌, codes, Option, None, Some}
 use Rattle.std.specs.Fmt.{decimal}
 use Rattle.std.specs.List.{flat_map}
-use Rattle.hn_assign.specs.declared.assigned.Assigned.{Assigned}
-use Rattle.hn_assign.specs.declared.backoff.Backoff.{Backoff}
+use Rattle.hn_pair.specs.declared.assigned.Assigned.{Assigned}
+use Rattle.hn_pair.specs.declared.backoff.Backoff.{Backoff}
 use Rattle.hn_base.specs.HexText.{hex_text, id_text}
 use Rattle.hn_base.specs.YesNo.{yes_no}
 use Rattle.hn_base.specs.declared.ids.EpId.{EpId}

@@ -6,7 +6,7 @@ use Rattle.hn_base.specs.declared.version.Version.{Version}
 use Rattle.hn_advert.specs.Advert.{IsAdvert, IsInfo, IsInRange, advert_bytes}
 use Rattle.hn_advert.specs.declared.advert.Advert.{Advert}
 use Rattle.hn_advert.specs.declared.advert.Info.{Info}
-use Rattle.hn_assign.specs.declared.assigned.Assigned.{Assigned}
+use Rattle.hn_pair.specs.declared.assigned.Assigned.{Assigned}
 use Rattle.hn_deleg.specs.declared.delegated.Delegated.{Delegated}
 use Rattle.hn_deleg.specs.Laws.{LifetimesFit, UsableIsUnique, UsableNeverOverlap}
 use Rattle.hn_deleg.specs.Used.{AreUsable, HasLifetimes, prefixes_of}

@@ -1,6 +1,6 @@
 use Rattle.std.proofs.Common.{List, subst, sym}
 use Rattle.hn_assign.specs.Renewed.{HasOfUnchanged}
-use Rattle.hn_assign.specs.declared.assigned.Advertised.{Advertised}
+use Rattle.hn_assign.specs.declared.advertised.Advertised.{Advertised}
 use Rattle.hn_assign.proofs.Renewals.{of_own}
 use Rattle.hn_assign.proofs.subroutines.gathered_again.Goals as goal
 

@@ -1,6 +1,6 @@
 use Rattle.hn_base.proofs.Names.{◌≡◌, ◌∙◌, List, refl, ap, append_assoc}
 use Rattle.hn_report.proofs.Names.{string_bytes, Assigned}
-use Rattle.hn_assign.specs.declared.held.Held.{Held}
+use Rattle.hn_pair.specs.declared.held.Held.{Held}
 use Rattle.hn_report.proofs.PrefixTexts.{assigned_head, assigned_lines, all_assigned}
 use Rattle.hn_report.proofs.prefix_reports.prefixes_lines.Goals as goal
 

@@ -4,7 +4,7 @@ use Rattle.std.specs.Ordering.{nat_cmp}
 use Rattle.hn_data.specs.View.{ids_of}
 use Rattle.hn_data.specs.declared.view.Entry.{Entry}
 use Rattle.hn_assign.specs.Gathered.{AreAdvertised}
-use Rattle.hn_assign.specs.declared.assigned.Assigned.{Assigned}
+use Rattle.hn_pair.specs.declared.assigned.Assigned.{Assigned}
 use Rattle.hn_assign.proofs.kept_index.KeptIndex.of.Goals as goal
 
 pub invariant_of-result : goal.invariant_of-result

@@ -6,7 +6,7 @@ use Rattle.hn_data.specs.View.{ids_of}
 use Rattle.hn_data.specs.declared.view.Entry.{Entry}
 use Rattle.hn_assign.specs.Changed.{AreChanged}
 use Rattle.hn_assign.specs.Renewed.{HasOfOthers, HasOfUnchanged}
-use Rattle.hn_assign.specs.declared.assigned.Advertised.{Advertised}
+use Rattle.hn_assign.specs.declared.advertised.Advertised.{Advertised}
 use Rattle.hn_assign.proofs.Renewals.{has_of_others, of_unchanged}
 use Rattle.hn_assign.proofs.kept_index.KeptIndex.renewed.Goals as goal
 

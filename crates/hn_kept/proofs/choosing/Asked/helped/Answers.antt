@@ -1,6 +1,6 @@
 use Rattle.hn_base.proofs.Names.{◌∙◌, sym, ap}
 use mathlib.Core.Bool.{true≢false}
-use Rattle.hn_assign.specs.declared.held.Held.{Held}
+use Rattle.hn_pair.specs.declared.held.Held.{Held}
 use Rattle.hn_kept.specs.Choosing.{PlainAsked, plain_asked}
 use Rattle.hn_kept.proofs.Choosings.{helps_by, not_served, others_left}
 use Rattle.hn_kept.proofs.choosing.Asked.helped.Goals as goal

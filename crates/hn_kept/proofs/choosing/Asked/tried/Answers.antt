@@ -1,5 +1,5 @@
 use Rattle.hn_base.proofs.Names.{◌∙◌, ap}
-use Rattle.hn_assign.specs.declared.held.Held.{Held}
+use Rattle.hn_pair.specs.declared.held.Held.{Held}
 use Rattle.hn_kept.specs.Choosing.{PlainAsked, plain_asked}
 use Rattle.hn_kept.specs.Preferred.{word_of}
 use Rattle.hn_kept.proofs.Choosings.{taker_of, passed}

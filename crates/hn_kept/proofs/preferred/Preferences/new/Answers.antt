@@ -1,6 +1,6 @@
 use Rattle.hn_base.proofs.Names.{on}
 use Rattle.hn_base.proofs.AscendingMade.{sorted_none}
-use Rattle.hn_assign.specs.Pair.{pair_cmp}
+use Rattle.hn_pair.specs.Pair.{pair_cmp}
 use Rattle.hn_kept.specs.Preferred.{preferred_pair}
 use Rattle.hn_kept.proofs.preferred.Preferences.new.Goals as goal
 

@@ -1,5 +1,5 @@
 use Rattle.hn_base.proofs.Names.{◌∙◌, List, sym, ap, subst}
-use Rattle.hn_assign.specs.Pair.{IsAscending}
+use Rattle.hn_pair.specs.Pair.{IsAscending}
 use Rattle.hn_kept.specs.declared.preferred.Preferred.{Preferred}
 use Rattle.hn_kept.specs.Preferred.{preferred_pair, before_pair, after_pair}
 use Rattle.hn_kept.proofs.InOrder.{with_is, in_order}

@@ -1,5 +1,0 @@
-use Rattle.hn_assign.proofs.AroundPair.{ascending_nil}
-use Rattle.hn_assign.proofs.of_pairs.OfPairs.new.Goals as goal
-
-pub invariant_of-result : goal.invariant_of-result
-invariant_of-result g c = rw c.new.ensures.items (ascending_nil g.T.Paired.pair_of)

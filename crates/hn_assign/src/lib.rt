@@ -31,10 +31,9 @@ pub use index::Index;
 pub use kept_index::{KeptIndex, same_assigned};
 pub use laws::{
     advertised_exists, advertised_of_later, advertised_of_unchanged, answers_know_no_order,
-    idle_run_stays, lines_exclude_each_other, marks_change_nothing,
-    rest_changes_no_assignment, rest_has_a_run, rest_is_unchanged, rest_stays,
-    steps_have_one_result, subroutine_has_a_result, subroutine_has_one_result, subroutine_keeps,
-    subroutine_leaves,
+    idle_run_stays, lines_exclude_each_other, marks_change_nothing, rest_changes_no_assignment,
+    rest_has_a_run, rest_is_unchanged, rest_stays, steps_have_one_result, subroutine_has_a_result,
+    subroutine_has_one_result, subroutine_keeps, subroutine_leaves,
 };
 pub use precedence::{PRIORITY, best, valid};
 pub use ran::Ran;

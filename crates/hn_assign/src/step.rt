@@ -6,8 +6,8 @@ ghost use Rattle.hn_assign.specs.Step.{IsPairStep, StepTook};
 
 use crate::assignments::change_assigned;
 use crate::backoffs::change_backoff;
-use crate::ran::Ran;
 use crate::index::Index;
+use crate::ran::Ran;
 use crate::scene::Scene;
 use crate::slot::slot_of;
 use hn_base::{NoMemory, Words};

@@ -8,9 +8,9 @@ ghost use Rattle.hn_assign.specs.Renewed.{HasOfOthers};
 ghost use Rattle.hn_assign.specs.Subroutine.{IsBegun, AreSteps, IsSubroutine};
 
 use crate::changed::own_node;
-use crate::ran::Ran;
 use crate::index::Index;
 use crate::kept_index::KeptIndex;
+use crate::ran::Ran;
 use crate::renewing::renewed;
 use hn_base::{NoMemory, Shared, Words};
 use hn_data::View;

@@ -11,8 +11,8 @@ ghost use Rattle.hn_lab.specs.Course.{IsCourse, IsKeptSource, IsStoppedNext, ope
 ghost use Rattle.hn_lab.specs.Open.{LineGoes, HasAdded, begun_play, is_plain, unless_begun};
 
 use crate::laws::mail_delivers;
-use crate::play_line::play_line;
 use crate::of_line::report_of;
+use crate::play_line::play_line;
 use crate::text_so_far::TextSoFar;
 use hn_base::{NoMemory, Sequence, Version};
 use hn_play::{End, Mail, Playing, Stop};

@@ -16,7 +16,7 @@ use crate::existing::{lab_is_of_transcript, play_is_of_transcript};
 use crate::laws::at_most_one_play;
 use crate::play_lines::play_lines;
 use hn_io::{IoFault, Sink, Source};
-use hn_play::{Carrier, End, Mail, Playing, OverWire};
+use hn_play::{Carrier, End, Mail, OverWire, Playing};
 use hn_script::{
     ParseFault, Script, ScriptFault, fault_excludes_script, lines_are_of_version, parse,
     script_is_limited, script_is_unique,

@@ -51,8 +51,8 @@ module _ (now : ℕ) (p : Port) where
   interval_same word ended = ap (λ (b : Bool). let q : Port = record p { trickle = cond b (interval_from now (next_length i.len) word) i } in q) ended
 
   keep_alive_same : (word : ℕ) → is_keep_alive_due p.sent now ≡ false → after_keep_alive now word p ≡ p
-  keep_alive_same word silent =
-      ap (λ (b : Bool). let q : Port = record p { trickle = cond b (interval_from now i.len word) i; sent = cond b now p.sent } in q) silent
+  keep_alive_same word no_keep_alive =
+      ap (λ (b : Bool). let q : Port = record p { trickle = cond b (interval_from now i.len word) i; sent = cond b now p.sent } in q) no_keep_alive
 
   pub idle : IsPortUndue now p → IsIdleAt now p
   idle still =
@@ -60,21 +60,21 @@ module _ (now : ℕ) (p : Port) where
       let sends : has_to_send now i ≡ false = not_sent i.done (nat_le i.fire now) (i.heard == 0) waits in
       let firing = firing_same (stays_done i.done (nat_le i.fire now) waits) sends in
       let ended : is_interval_over now i ≡ false = lt-leb (i.begin + i.len) now still.interval.lasts in
-      let silent : is_keep_alive_due p.sent now ≡ false = (let recent = still.recent in lt-leb 20000 (now - p.sent) (omega (arith, recent))) in
-      let keep : has_keep_alive now p ≡ false = ap (λ (q : Port). is_keep_alive_due q.sent now) firing ∙ silent in
+      let no_keep_alive : is_keep_alive_due p.sent now ≡ false = (let recent = still.recent in lt-leb 20000 (now - p.sent) (omega (arith, recent))) in
+      let keep : has_keep_alive now p ≡ false = ap (λ (q : Port). is_keep_alive_due q.sent now) firing ∙ no_keep_alive in
       record {
         untaken = ap (λ (b : Bool). cond b 1 0 + cond (has_keep_alive now p) 1 0) ended ∙ ap (λ (b : Bool). 0 + cond b 1 0) keep;
         unsent = ap (λ (b : Bool). b || has_keep_alive now p) sends ∙ keep;
         same = ap (λ (q : Port). after_keep_alive now (slice_index [] (interval_words now p)) (after_interval now (slice_index [] 0) q)) firing
             ∙ ap (λ (q : Port). after_keep_alive now (slice_index [] (interval_words now p)) q) (interval_same (slice_index [] 0) ended)
-            ∙ keep_alive_same (slice_index [] (interval_words now p)) silent;
+            ∙ keep_alive_same (slice_index [] (interval_words now p)) no_keep_alive;
       }
 
   pub still : IsIdleAt now p → IsPortUndue now p
   still is =
       let none = none_or (has_to_send now i) (has_keep_alive now p) is.unsent in
       let ended : is_interval_over now i ≡ false = no_word (is_interval_over now i) (cond (has_keep_alive now p) 1 0) is.untaken in
-      let silent : is_keep_alive_due p.sent now ≡ false = sym (ap (λ (b : Bool). is_keep_alive_due (cond b now p.sent) now) none.0) ∙ none.1 in
+      let no_keep_alive : is_keep_alive_due p.sent now ≡ false = sym (ap (λ (b : Bool). is_keep_alive_due (cond b now p.sent) now) none.0) ∙ none.1 in
       let next : Port = after_interval now (slice_index [] 0) (after_firing now p) in
       let before : (ticked now [] p).trickle.done ≡ next.trickle.done =
       ap (λ (b : Bool). (let t : Interval = cond b (interval_from now next.trickle.len (slice_index [] (interval_words now p))) next.trickle in t).done) none.1
@@ -88,7 +88,7 @@ module _ (now : ℕ) (p : Port) where
           waits = elim (done_or_not_yet i.done (nat_le i.fire now) done) [ inl already ↦ inl already | inr before ↦ inr (leb-false i.fire now before) ];
           lasts = leb-false (i.begin + i.len) now ended;
         };
-        recent = (let less = leb-false 20000 (now - p.sent) silent in omega (arith, less));
+        recent = (let less = leb-false 20000 (now - p.sent) no_keep_alive in omega (arith, less));
       }
 
 pub undue_is_idle : UnduePortIsIdle

@@ -8,7 +8,7 @@ ghost use Rattle.hn_dncp.specs.Tick.{after_firing, after_interval, after_keep_al
 use crate::port::Port;
 use hn_base::Moment;
 use hn_io::{Draw, words_join};
-use hn_timers::silent;
+use hn_timers::is_keep_alive_due;
 
 /// What a tick did at an endpoint.
 #[derive(Clone, Copy)]
@@ -67,7 +67,7 @@ impl Port {
         ensures word { is_some result ≡ is_keep_alive_due self.old.sent now }
         ensures drew { Took (D.words draw.old) (option_to_list result) (D.words draw.new) }
     {
-        if !silent(self.sent, now) {
+        if !is_keep_alive_due(self.sent, now) {
             return None;
         }
         let word = draw.next();

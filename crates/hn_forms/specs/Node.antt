@@ -1,5 +1,5 @@
 -- What `node` comes to: a router is set up by its file, and served.
-use Rattle.std.specs.Prelude.{◌≡◌, ◌≢◌, ◌⊎◌, ◌≤◌, All, ℕ, Bool, true, false, not, List, [], ◌∷◌, ◌++◌, ◌-◌, ◌^◌, length, min, take, map, codes, Option, None, Some}
+use Rattle.std.specs.Prelude.{◌≡◌, ◌≢◌, ◌⊎◌, ◌≤◌, All, ℕ, Bool, true, false, not, List, [], ◌∷◌, ◌++◌, ◌-◌, ◌^◌, length, min, take, codes, Option, None, Some}
 use Rattle.std.specs.Fmt.{decimal}
 use Rattle.std.specs.Io.KnownBytes.{Appends}
 use Rattle.rand_core.specs.Pcg32Seed.{pcg32_seed}
@@ -12,7 +12,6 @@ use Rattle.hn_io.specs.Pcg.{pcg_word}
 use Rattle.hn_streams.specs.Output.{IsPart, IsFrontOf}
 use Rattle.hn_streams.specs.Refusal.{refused_line}
 use Rattle.hn_node.specs.Turns.{PlainSite, Serving, serving, AreTurns, CutTurns, StarvesTurns, handed_in, arrivals_in, logged_words}
-use Rattle.hn_node.specs.declared.served.ServeEnd.{ServeEnd}
 use Rattle.hn_node.specs.declared.served.ServeEnd.TheVariants as ending
 use Rattle.hn_node.specs.declared.served.Served.{Served}
 use Rattle.hn_own.specs.OwnPrefixes.{may_delegate}

@@ -79,6 +79,24 @@ event_of (line.Tick name) = Some (event.Tick name)
 event_of (line.Drop copy) = Some (event.Drop copy)
 event_of _ = None
 
+-- the line of a script that an event is, where there is one
+abbrev pub line_of : WEvent → Option Line
+line_of (event.Router name id) = Some (line.Router name id)
+line_of (event.Link name) = Some (line.Link name)
+line_of (event.Attach name endpoint link) = Some (line.Attach name endpoint link)
+line_of (event.Detach name endpoint) = Some (line.Detach name endpoint)
+line_of (event.External name prefix valid preferred) = Some (line.External name prefix valid preferred)
+line_of (event.Withdraw name prefix) = Some (line.Withdraw name prefix)
+line_of (event.Caps name caps) = Some (line.Caps name caps)
+line_of (event.Private name bits) = Some (line.Private name bits)
+line_of (event.Stop name) = Some (line.Stop name)
+line_of (event.Start name) = Some (line.Start name)
+line_of (event.Time moment) = Some (line.Time moment)
+line_of (event.Tick name) = Some (line.Tick name)
+line_of (event.Deliver copy) = Some (line.Deliver copy)
+line_of (event.Drop copy) = Some (line.Drop copy)
+line_of _ = None
+
 -- the report that a line is, if it is one
 abbrev pub report_of : Line → Option Report
 report_of (line.Show name) = Some (report.Router name about.Show)

@@ -29,6 +29,7 @@ pub use laws::{
     at_most_one_cut_play, at_most_one_play, broken_text_is_a_front, cut_text_is_a_front,
     events_keep_quiet, mail_delivers, run_keeps_calm, wire_fails_at_a_copy,
 };
+pub use of_line::line_of;
 pub use open::{OpenPlay, lab_plays_the_source, lines_go_on, plain_refusals_change_nothing};
 pub use scripts::{
     DONE, NO_MEMORY, Played, REFUSED, SINK_FAILED, SOURCE_FAILED, WIRE_FAILED, lab, lab_by_mail,

@@ -4,7 +4,7 @@ ghost use Rattle.std.specs.Prelude.{◌≡◌, Err, None, Some, IfOk};
 ghost use Rattle.hn_script.specs.Laws.{IsLimited};
 ghost use Rattle.hn_script.specs.declared.line.Line.{Line};
 ghost use Rattle.hn_world.specs.Step.{IsWorldEventInRange};
-ghost use Rattle.hn_lab.specs.Line.{event_of, report_of, injection, source_of};
+ghost use Rattle.hn_lab.specs.Line.{event_of, line_of, report_of, injection, source_of};
 
 use crate::report::{About, Report};
 use hn_base::{Addr, Bytes, EpId, Name};
@@ -73,6 +73,38 @@ pub(crate) fn event_of(line: Line) -> Result<WEvent, Line>
         Line::Tick(name) => WEvent::Tick { name },
         Line::Drop(copy) => WEvent::Drop { copy },
         other => return Err(other),
+    })
+}
+
+/// The line of a script that an event is; `None` for the two that are none. Never allocates.
+pub fn line_of(event: &WEvent) -> Option<Line>
+    ensures { result ≡ line_of event.now }
+{
+    Some(match event {
+        WEvent::Router { name, id } => Line::Router(*name, *id),
+        WEvent::Link { name } => Line::Link(*name),
+        WEvent::Attach {
+            name,
+            endpoint,
+            link,
+        } => Line::Attach(*name, *endpoint, *link),
+        WEvent::Detach { name, endpoint } => Line::Detach(*name, *endpoint),
+        WEvent::External {
+            name,
+            prefix,
+            valid,
+            preferred,
+        } => Line::External(*name, *prefix, *valid, *preferred),
+        WEvent::Withdraw { name, prefix } => Line::Withdraw(*name, *prefix),
+        WEvent::Caps { name, caps } => Line::Caps(*name, *caps),
+        WEvent::Private { name, length } => Line::Private(*name, *length),
+        WEvent::Stop { name } => Line::Stop(*name),
+        WEvent::Start { name } => Line::Start(*name),
+        WEvent::Time { moment } => Line::Time(*moment),
+        WEvent::Tick { name } => Line::Tick(*name),
+        WEvent::Deliver { copy } => Line::Deliver(*copy),
+        WEvent::Drop { copy } => Line::Drop(*copy),
+        _ => return None,
     })
 }
 

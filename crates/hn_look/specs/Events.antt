@@ -7,31 +7,13 @@ use Rattle.hn_base.specs.Name.{name_text}
 use Rattle.hn_base.specs.declared.addr.Addr.{Addr}
 use Rattle.hn_base.specs.declared.ids.EpId.{EpId}
 use Rattle.hn_base.specs.declared.name.Name.{Name}
+use Rattle.hn_lab.specs.Line.{line_of}
 use Rattle.hn_own.specs.Addresses.{OwnAddress}
 use Rattle.hn_prefix.specs.AddressText.{address_text_of}
 use Rattle.hn_script.specs.Line.{line_text}
 use Rattle.hn_script.specs.declared.line.Line.{Line}
-use Rattle.hn_script.specs.declared.line.Line.TheVariants as line
 use Rattle.hn_world.specs.declared.event.WEvent.{WEvent}
 use Rattle.hn_world.specs.declared.event.WEvent.TheVariants as event
-
--- the line of a script that an event is, where there is one
-abbrev pub line_of : WEvent → Option Line
-line_of (event.Router name id) = Some (line.Router name id)
-line_of (event.Link name) = Some (line.Link name)
-line_of (event.Attach name endpoint link) = Some (line.Attach name endpoint link)
-line_of (event.Detach name endpoint) = Some (line.Detach name endpoint)
-line_of (event.External name prefix valid preferred) = Some (line.External name prefix valid preferred)
-line_of (event.Withdraw name prefix) = Some (line.Withdraw name prefix)
-line_of (event.Caps name caps) = Some (line.Caps name caps)
-line_of (event.Private name bits) = Some (line.Private name bits)
-line_of (event.Stop name) = Some (line.Stop name)
-line_of (event.Start name) = Some (line.Start name)
-line_of (event.Time moment) = Some (line.Time moment)
-line_of (event.Tick name) = Some (line.Tick name)
-line_of (event.Deliver copy) = Some (line.Deliver copy)
-line_of (event.Drop copy) = Some (line.Drop copy)
-line_of _ = None
 
 -- how a datagram comes
 abbrev pub way_word : Bool → List ℕ

@@ -2,9 +2,10 @@
 
 ghost use Rattle.std.specs.Prelude.{◌≡◌, ◌++◌, List, ℕ, OnOk, string_bytes};
 ghost use Rattle.std.specs.List.{flat_map};
-ghost use Rattle.hn_look.specs.Events.{way_word, address_words, addresses_text, injection_text, line_of, other_text, event_text};
+ghost use Rattle.hn_look.specs.Events.{way_word, address_words, addresses_text, injection_text, other_text, event_text};
 
 use hn_base::{Addr, EpId, Hex, Name};
+use hn_lab::line_of;
 use hn_prefix::address_text;
 use hn_script::Line;
 use hn_world::WEvent;
@@ -15,38 +16,6 @@ pub(crate) fn way_word(multicast: bool) -> &'static str
     ensures { result.now ≡ way_word multicast }
 {
     if multicast { "multi" } else { "uni" }
-}
-
-/// The line of a script that an event is; `None` for the two that are none. Never allocates.
-fn line_of(event: &WEvent) -> Option<Line>
-    ensures { result ≡ line_of event.now }
-{
-    Some(match event {
-        WEvent::Router { name, id } => Line::Router(*name, *id),
-        WEvent::Link { name } => Line::Link(*name),
-        WEvent::Attach {
-            name,
-            endpoint,
-            link,
-        } => Line::Attach(*name, *endpoint, *link),
-        WEvent::Detach { name, endpoint } => Line::Detach(*name, *endpoint),
-        WEvent::External {
-            name,
-            prefix,
-            valid,
-            preferred,
-        } => Line::External(*name, *prefix, *valid, *preferred),
-        WEvent::Withdraw { name, prefix } => Line::Withdraw(*name, *prefix),
-        WEvent::Caps { name, caps } => Line::Caps(*name, *caps),
-        WEvent::Private { name, length } => Line::Private(*name, *length),
-        WEvent::Stop { name } => Line::Stop(*name),
-        WEvent::Start { name } => Line::Start(*name),
-        WEvent::Time { moment } => Line::Time(*moment),
-        WEvent::Tick { name } => Line::Tick(*name),
-        WEvent::Deliver { copy } => Line::Deliver(*copy),
-        WEvent::Drop { copy } => Line::Drop(*copy),
-        _ => return None,
-    })
 }
 
 /// Adds addresses, each with the endpoint that it is of.

@@ -51,19 +51,8 @@ fn actor(event: &WEvent, world: &World) -> Option<Name>
 {
     match event {
         WEvent::Deliver { copy } => world.copy_info(*copy).map(|info| info.to),
-        WEvent::Router { name, .. }
-        | WEvent::Attach { name, .. }
-        | WEvent::Detach { name, .. }
-        | WEvent::External { name, .. }
-        | WEvent::Withdraw { name, .. }
-        | WEvent::Caps { name, .. }
-        | WEvent::Private { name, .. }
-        | WEvent::Addresses { name, .. }
-        | WEvent::Stop { name }
-        | WEvent::Start { name }
-        | WEvent::Tick { name }
-        | WEvent::Inject { name, .. } => Some(*name),
-        _ => None,
+        WEvent::Router { name, .. } => Some(*name),
+        _ => event.named(),
     }
 }
 

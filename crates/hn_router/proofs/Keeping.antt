@@ -72,7 +72,7 @@ still_due now moment due s is = record {
     are_asked = asked_due now due s is.rests.usable is.rests.wishes is.rests.are_asked;
     is_subroutine = is.rests.is_subroutine;
   };
-  silent = is.silent;
+  ports = is.ports;
 }
 
 -- ---- a tick that does nothing

@@ -42,7 +42,7 @@ mod Published
 mod Dues
 mod SeenWhileTimePasses
 mod NothingDueLasts
-mod Silences
+mod ComesToNothing
 mod NoPeerExpired
 mod PortsOfNothing
 mod TickDoesNothing

@@ -71,9 +71,9 @@ module _ (laws : UndueLaws) (s : State) (now later : ℕ) (goes : now ≤ later)
       (λ peer there. peer_heard port peer attached there (All-contains (λ (p : Neighbour). ¬ (IsExpired (at_moment now s) p)) port.peers peer here there)))
 
   nothing_came_stays : All (IsPortUndue now) s.ports → All (IsPortUndue later) s.ports
-  nothing_came_stays silent =
+  nothing_came_stays came_none =
       all_of (IsPortUndue later) s.ports
-      (λ port attached. laws.port port now later goes (All-contains (IsPortUndue now) s.ports port silent attached) (λ m due. none m (inl (port, attached, inr due))))
+      (λ port attached. laws.port port now later goes (All-contains (IsPortUndue now) s.ports port came_none attached) (λ m due. none m (inl (port, attached, inr due))))
 
   lasting_stays : has_ended_one now s.delegated ≡ false → has_ended_one later s.delegated ≡ false
   lasting_stays =
@@ -198,7 +198,7 @@ undue_stays laws s now later router begun goes still none = record {
   reached = reached_stays laws s now later goes none router.well still.reached still.young;
   kept = kept_stays laws s now later goes none still.kept;
   rests = rests_stays laws s now later goes none router.well begun still.rests;
-  silent = nothing_came_stays laws s now later goes none still.silent;
+  ports = nothing_came_stays laws s now later goes none still.ports;
 }
 
 pub reached_while_undue : ReachabilityStays → KeptUndueReaches

@@ -110,7 +110,7 @@ module _ (expiry : ExpiryIsAMoment) (s : State) (p : Passing) (now until : ℕ) 
 
   undue_heard : (port : Port) → HasHeard now s.ports port → IsPortUndue now port
   undue_heard port heard =
-      let undue = All-contains (IsPortUndue now) s.ports heard.was was.silent heard.there in
+      let undue = All-contains (IsPortUndue now) s.ports heard.was was.ports heard.there in
       subst (IsPortUndue now) (sym heard.is) (record { interval = record { waits = undue.interval.waits; lasts = undue.interval.lasts }; recent = undue.recent })
 
   -- each part of a tick leaves the router as it is
@@ -125,8 +125,8 @@ module _ (expiry : ExpiryIsAMoment) (s : State) (p : Passing) (now until : ℕ) 
     reached = record { ascending = was.reached.ascending; exactly = was.reached.exactly };
     kept = was.kept;
     rests = run_ports (at_moment now s) after.ports 0 (record { held = s.held; words = [] }) (same_ends p.endpoint p.heard now s.ports) was.rests;
-    silent = all_of (IsPortUndue now) after.ports (λ port there. elim (from_after p.endpoint p.heard now s.ports port there) [
-      | inl old ↦ All-contains (IsPortUndue now) s.ports port was.silent old
+    ports = all_of (IsPortUndue now) after.ports (λ port there. elim (from_after p.endpoint p.heard now s.ports port there) [
+      | inl old ↦ All-contains (IsPortUndue now) s.ports port was.ports old
       | inr heard ↦ undue_heard port heard
     ]);
   }

@@ -21,7 +21,7 @@ use Rattle.hn_rules.proofs.PortsInTurn.{with_ports}
 use Rattle.hn_rules.proofs.NoPeerExpired.{none_expired, expiry_ports}
 use Rattle.hn_rules.proofs.PortsOfNothing.{all_idle, ticks_ports}
 use Rattle.hn_rules.proofs.SeenWhileTimePasses.{due_later}
-use Rattle.hn_rules.proofs.Silences.{CameToNothing, none_after, seen_again, refresh_of_nothing, nothing_came_walk}
+use Rattle.hn_rules.proofs.ComesToNothing.{CameToNothing, none_after, seen_again, refresh_of_nothing, nothing_came_walk}
 use Rattle.hn_rules.proofs.Walk.{assigning_walk, ports_walk}
 
 -- the laws of the crates below that they stand on
@@ -58,7 +58,7 @@ module _ (laws : UndueLaws) (s : State) (now : ℕ) (router : IsRouter s) (begun
   undue_tick : IsIdleTick now s
   undue_tick =
       let expires = none_expire_at r router.well.ports still.heard in
-      let ticks = ports_rest laws.port r router.well.ports still.silent in
+      let ticks = ports_rest laws.port r router.well.ports still.ports in
       (r, (r, (r, expires, (r, ends, refreshes)), (r, forgets, (r, (r, assigns, refreshes), ticks))), refl, refl)
 
 pub undue_idle : UndueLaws → UndueIsIdle
@@ -176,9 +176,9 @@ module _ (laws : IdleLaws) (s : State) (now : ℕ) (router : IsRouter s) (begun 
     ticks : IsPortsTick settled after
 
   tick_of_nothing : (after : Running) → IsTick start after → CameToNothing after → IsTickOfNothing after
-  tick_of_nothing after (losing, (expired, expiry, (ended, ends, refreshes)), (forgetful, forgets, (settled, (settling, assigns, again), ticks))) silent =
+  tick_of_nothing after (losing, (expired, expiry, (ended, ends, refreshes)), (forgetful, forgets, (settled, (settling, assigns, again), ticks))) came_none =
       let ran = assigns.ran in
-      let settled_nothing_came : CameToNothing settled = nothing_came_walk IsPortsTick (λ P each. ports_walk [] P each) settled after ticks silent in
+      let settled_nothing_came : CameToNothing settled = nothing_came_walk IsPortsTick (λ P each. ports_walk [] P each) settled after ticks came_none in
       let last = refresh_of_nothing settling settled again settled_nothing_came in
       let settling_nothing_came : CameToNothing settling = sym last.done ∙ settled_nothing_came in
       let forgetful_nothing_came : CameToNothing forgetful = nothing_came_walk IsAssigning (λ P each. assigning_walk [] P each) forgetful settling assigns settling_nothing_came in
@@ -216,7 +216,7 @@ module _ (laws : IdleLaws) (s : State) (now : ℕ) (router : IsRouter s) (begun 
   -- ---- where all is as it was in the end
 
   still_by : (after : Running) → IsTickOfNothing after → CameToNothing after → after.state ≡ at_moment now s → IsRouterUndue now s
-  still_by after parts silent same =
+  still_by after parts came_none same =
       let whole = sym (leaves after parts) ∙ same in
       let again_is : parts.again ≡ s.reach = ap (λ (x : State). x.reach) whole in
       let marked_is : map (marked_node parts.again now) (left parts.reach) ≡ s.table.entries = ap (λ (x : State). x.table.entries) whole in
@@ -230,7 +230,7 @@ module _ (laws : IdleLaws) (s : State) (now : ℕ) (router : IsRouter s) (begun 
       ∙ marked_is in
       let ports_are : parts.settled.state.ports ≡ s.ports = ap (λ (x : State). x.ports) parts.settled_is in
       let moment_is : parts.settled.state.moment ≡ now = ap (λ (x : State). x.moment) parts.settled_is in
-      let idle = all_idle laws.packing parts.settled after (subst ArePorts (sym ports_are) router.well.ports) parts.ticks silent (ap (λ (x : State). x.ports) same ∙ sym ports_are) in
+      let idle = all_idle laws.packing parts.settled after (subst ArePorts (sym ports_are) router.well.ports) parts.ticks came_none (ap (λ (x : State). x.ports) same ∙ sym ports_are) in
       let idle_here : All (IsIdleAt now) s.ports = subst (All (IsIdleAt now)) ports_are (subst (λ (n : ℕ). All (IsIdleAt n) parts.settled.state.ports) moment_is idle) in
       record {
         heard = parts.heard;
@@ -239,7 +239,7 @@ module _ (laws : IdleLaws) (s : State) (now : ℕ) (router : IsRouter s) (begun 
         reached = reached parts.reach parts.net parts.ran.held parts.again parts.first parts.second again_is seen;
         kept = (laws.forgetting now s.table).0 (ap (λ (nodes : List HeldNode). let t : Nodes = record s.table { entries = nodes } in t) remains);
         rests = rests parts.reach parts.net parts.ran.held parts.again parts.first parts.second again_is seen remains parts.ran parts.is_assigned (ap (λ (x : State). x.held) whole) parts.untaken;
-        silent = all_of (IsPortUndue now) s.ports (λ port there. (laws.port now port).1 (All-contains (IsIdleAt now) s.ports port idle_here there));
+        ports = all_of (IsPortUndue now) s.ports (λ port there. (laws.port now port).1 (All-contains (IsIdleAt now) s.ports port idle_here there));
       }
 
   -- ---- where some parts are as they were
@@ -261,8 +261,8 @@ module _ (laws : IdleLaws) (s : State) (now : ℕ) (router : IsRouter s) (begun 
 
   pub still_from : (after : Running) → IsTick start after → CameToNothing after → after.state.reach ≡ s.reach → after.state.held ≡ s.held → list_any (is_forgotten now) s.table.entries ≡ false
       → All (IsPortUndue now) s.ports → IsRouterUndue now s
-  still_from after tick silent same_reach same_held none undue_ports =
-      let parts = tick_of_nothing after tick silent in
+  still_from after tick came_none same_reach same_held none undue_ports =
+      let parts = tick_of_nothing after tick came_none in
       let whole = leaves after parts in
       let found : after.state.reach ≡ parts.again = ap (λ (x : State). x.reach) whole in
       let holds : after.state.held ≡ parts.ran.held = ap (λ (x : State). x.held) whole in
@@ -280,15 +280,15 @@ module _ (laws : IdleLaws) (s : State) (now : ℕ) (router : IsRouter s) (begun 
         reached = reached parts.reach parts.net parts.ran.held parts.again parts.first parts.second again_is seen;
         kept = none;
         rests = rests parts.reach parts.net parts.ran.held parts.again parts.first parts.second again_is seen remains parts.ran parts.is_assigned held_is parts.untaken;
-        silent = undue_ports;
+        ports = undue_ports;
       }
 
 pub idle_undue : IdleLaws → IdleIsUndue
-idle_undue laws s now router begun (after, tick, same, silent) =
-    still_by laws s now router begun after (tick_of_nothing laws s now router begun after tick silent) silent same
+idle_undue laws s now router begun (after, tick, same, came_none) =
+    still_by laws s now router begun after (tick_of_nothing laws s now router begun after tick came_none) came_none same
 
 pub nothing_came_undue : IdleLaws → TickOfNothingIsUndue
-nothing_came_undue laws s now after router begun tick silent left = still_from laws s now router begun after tick silent left.reach left.held left.kept left.silent
+nothing_came_undue laws s now after router begun tick came_none left = still_from laws s now router begun after tick came_none left.reach left.held left.kept left.ports
 
 -- ---- a tick that ran
 
@@ -304,17 +304,17 @@ one_tick sole r a b h k nothing_came_a nothing_came_b =
 -- so one that ran where each part leaves the router as it is did nothing
 pub ran_idle : UndueIsIdle → IsSole IsTick → (s : State) (now : ℕ) (after : Running) → IsRouter s → s.moment ≤ now → IsTick (begun_at now s) after
     → after.done ≡ nothing → IsRouterUndue now s → after.state ≡ at_moment now s
-ran_idle is_idle sole s now after router begun tick silent still =
+ran_idle is_idle sole s now after router begun tick came_none still =
     let (other, other_tick, same, other_nothing_came) = is_idle s now router begun still in
-    ap (λ (r : Running). r.state) (one_tick sole (begun_at now s) after other tick other_tick silent other_nothing_came) ∙ same
+    ap (λ (r : Running). r.state) (one_tick sole (begun_at now s) after other tick other_tick came_none other_nothing_came) ∙ same
 
 pub is_idle_where_left : UndueIsIdle → IdleIsUndue → TickOfNothingIsUndue → IsSole IsTick → (s : State) (now : ℕ) (after : Running) → IsRouter s
     → s.moment ≤ now → IsTick (begun_at now s) after → after.done ≡ nothing
     → IsLeft now s after.state ↔ ((after.state ≡ at_moment now s) × (after.done ≡ nothing))
-is_idle_where_left is_idle is_router_undue nothing_came_is_undue sole s now after router begun tick silent = (
-  λ left. (ran_idle is_idle sole s now after router begun tick silent (nothing_came_is_undue s now after router begun tick silent left), silent),
-  λ (same, _). let still = is_router_undue s now router begun (after, tick, same, silent) in
-      record { reach = ap (λ (x : State). x.reach) same; held = ap (λ (x : State). x.held) same; kept = still.kept; silent = still.silent },
+is_idle_where_left is_idle is_router_undue nothing_came_is_undue sole s now after router begun tick came_none = (
+  λ left. (ran_idle is_idle sole s now after router begun tick came_none (nothing_came_is_undue s now after router begun tick came_none left), came_none),
+  λ (same, _). let still = is_router_undue s now router begun (after, tick, same, came_none) in
+      record { reach = ap (λ (x : State). x.reach) same; held = ap (λ (x : State). x.held) same; kept = still.kept; came_none = still.ports },
 )
 
 -- ---- until something is due

@@ -20,4 +20,4 @@ pub record IsLeft (now : ℕ) (before after : State) : Type 0 where
   pub reach : after.reach ≡ before.reach
   pub held : after.held ≡ before.held
   pub kept : list_any (is_forgotten now) before.table.entries ≡ false
-  pub silent : All (IsPortUndue now) before.ports
+  pub ports : All (IsPortUndue now) before.ports

@@ -34,4 +34,4 @@ pub record IsRouterUndue (now : ℕ) (s : State) : Type 0 where
   pub reached : IsReach (at_moment now s) s.reach
   pub kept : list_any (is_forgotten now) s.table.entries ≡ false
   pub rests : IsRunAssigned (at_moment now s) (record { held = s.held; words = [] })
-  pub silent : All (IsPortUndue now) s.ports
+  pub ports : All (IsPortUndue now) s.ports

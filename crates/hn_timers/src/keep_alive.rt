@@ -39,7 +39,7 @@ pub fn next_expiry(contact: Moment, interval: u32, now: Moment, best: Moment) ->
 
 /// Whether a keep-alive is due, where a network state was last sent at `sent`: that was `KEEP_ALIVE_INTERVAL` ago
 /// or longer (RFC 7787, section 6.1.2). Never allocates.
-pub fn silent(sent: Moment, now: Moment) -> bool
+pub fn is_keep_alive_due(sent: Moment, now: Moment) -> bool
     ensures { result ≡ is_keep_alive_due sent now }
 {
     now.saturating_sub(sent) >= u64::from(KEEP_ALIVE_INTERVAL)

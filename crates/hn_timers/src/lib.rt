@@ -7,8 +7,8 @@ mod laws;
 mod trickle;
 
 pub use keep_alive::{
-    KEEP_ALIVE_MULTIPLIER_DENOMINATOR, KEEP_ALIVE_MULTIPLIER_NUMERATOR, expired, next_expiry,
-    next_silence, silent,
+    KEEP_ALIVE_MULTIPLIER_DENOMINATOR, KEEP_ALIVE_MULTIPLIER_NUMERATOR, expired, is_keep_alive_due,
+    next_expiry, next_silence,
 };
 pub use laws::{expiry_is_a_moment, silence_is_a_moment, undue_interval_stays};
 pub use trickle::{LONGEST_INTERVAL, SHORTEST_INTERVAL, Trickle};

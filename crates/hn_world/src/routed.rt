@@ -93,7 +93,7 @@ impl WEvent {
     }
 
     /// The router that the event names. Never allocates.
-    pub(crate) fn named(&self) -> Option<Name>
+    pub fn named(&self) -> Option<Name>
         ensures { result ≡ named_by self.now }
     {
         match self {

@@ -1,11 +1,12 @@
 use Rattle.hn_base.proofs.Names.{◌≡◌, ◌<◌, ◌≤◌, ◌++◌, ◌∙◌, List, [], ◌∷◌, get_or, length, take, sym, ap, arith, cons_option, append-nil, take_all}
 use Rattle.hn_own.proofs.Names.{AssignedPrefix, published_in}
 use Rattle.hn_own.proofs.PairLists.{published_in-more, published_in-few, published_in-priority}
+use Rattle.hn_own.proofs.held_pairs.HeldPairs.published.Given.{Over}
 use Rattle.hn_own.proofs.held_pairs.HeldPairs.published.Goals as goal
 use Rattle.hn_own.proofs.held_pairs.HeldPairs.published.Goals.{in-Some+in_ok-push, in_default}
 
 pub loop-c-preserved : goal.loop-c-preserved
-loop-c-preserved c =
+loop-c-preserved g c =
     let assigned = c.args.self.now.assigned in
     let i = c.loop-c.c-index in
     let items : c.as_slice-c-items.result.now ≡ assigned = c.as_slice-c-items.ensures.value ∙ ap (λ h. h.assigned) c.self.view_is in
@@ -20,17 +21,17 @@ loop-c-preserved c =
     ]
 
 -- after the loop it went over all assignments
-all : (c : goal.After-loop-c) → c.loop-c.published ≡ published_in c.self.inside.held.assigned
-all c =
+all : (g : Over) (c : goal.After-loop-c g) → c.loop-c.published ≡ published_in c.self.inside.held.assigned
+all g c =
     let assigned = c.self.inside.held.assigned in
     let same : c.args.self.now.assigned ≡ assigned = sym (ap (λ h. h.assigned) c.self.view_is) in
     let past : length assigned ≤ c.loop-c.c-index = rw (← c.as_slice-c-items.ensures.value) c.loop-c-test.false in
     c.loop-c.invariant ∙ ap (λ xs. published_in (take c.loop-c.c-index xs)) same ∙ ap published_in (take_all c.loop-c.c-index assigned past)
 
 pub returns-clause-few : goal.returns-clause-few
-returns-clause-few c =
+returns-clause-few g c =
     let few = c.self.invariant.few in
-    rw (all c) (omega (arith, published_in-few c.self.inside.held.assigned))
+    rw (all g c) (omega (arith, published_in-few c.self.inside.held.assigned))
 
 pub returns-clause-priority : goal.returns-clause-priority
-returns-clause-priority c = rw (all c) (published_in-priority c.self.inside.held.assigned c.self.invariant.priority)
+returns-clause-priority g c = rw (all g c) (published_in-priority c.self.inside.held.assigned c.self.invariant.priority)

@@ -1,5 +1,5 @@
 -- Each backoff is due soon through the subroutine.
-use Rattle.hn_base.proofs.Names.{◌≡◌, ◌⊎◌, ℕ, ◌+◌, ◌%◌, ◌≤◌, List, [], ◌∷◌, Option, None, Some, IfSome, sym, subst, inl, inr, ⊎_elim, arith, All, HasAt}
+use Rattle.hn_base.proofs.Names.{◌≡◌, ℕ, ◌+◌, ◌%◌, ◌≤◌, List, [], ◌∷◌, Option, None, Some, IfSome, sym, subst, inl, inr, ⊎_elim, arith, All, HasAt}
 use Rattle.hn_assign.proofs.Names.{PlainView, Advertised, Assigned, Wish, Backoff, Held, Ran, Slot, IfValid, IsLine, backoff_pair, wish_pair, PlainScene, scene_of, IsPairStep, AreSteps, IsSubroutine}
 use Rattle.hn_pair.specs.Facts.{IsSoonDue}
 use Rattle.hn_assign.proofs.AtPair.{pair_cases, is_had}

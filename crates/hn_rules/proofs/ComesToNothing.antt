@@ -41,7 +41,8 @@ nothing_came_walk rule walk before after holds came_none =
     let grows = walk (GrowsFrom done) (only_add [] done) before after holds same in
     same_done done nothing (none_grown done.sends after.done.sends grows.sends (ap (λ (d : Done). d.sends) came_none))
     (none_grown done.notes after.done.notes grows.notes (ap (λ (d : Done). d.notes) came_none))
-    (none_grown done.published after.done.published grows.published (ap (λ (d : Done). d.published) came_none)) (none_grown done.words after.done.words grows.words (ap (λ (d : Done). d.words) came_none))
+    (none_grown done.published after.done.published grows.published (ap (λ (d : Done). d.published) came_none))
+    (none_grown done.words after.done.words grows.words (ap (λ (d : Done). d.words) came_none))
   where
     itself : {A : Type 0} (list : List A) → BeginsWith list list
     itself list = ([], sym (append-nil list))

@@ -314,7 +314,7 @@ pub is_idle_where_left : UndueIsIdle → IdleIsUndue → TickOfNothingIsUndue �
 is_idle_where_left is_idle is_router_undue nothing_came_is_undue sole s now after router begun tick came_none = (
   λ left. (ran_idle is_idle sole s now after router begun tick came_none (nothing_came_is_undue s now after router begun tick came_none left), came_none),
   λ (same, _). let still = is_router_undue s now router begun (after, tick, same, came_none) in
-      record { reach = ap (λ (x : State). x.reach) same; held = ap (λ (x : State). x.held) same; kept = still.kept; came_none = still.ports },
+      record { reach = ap (λ (x : State). x.reach) same; held = ap (λ (x : State). x.held) same; kept = still.kept; ports = still.ports },
 )
 
 -- ---- until something is due
